@@ -1,0 +1,10 @@
+//! Challenges and credentials of HTTP authentication (RFC 9110 section 11): their bytes, lists and items.
+#![tactic(auto)]
+
+mod items;
+mod octets;
+mod sequence;
+
+pub use items::{Item, ItemList, OctetsList, Param, ParamList, Quoting, Rest, Role};
+pub use octets::{Octets, OutOfMemory};
+pub use sequence::Sequence;
