@@ -1,0 +1,16 @@
+//! The outside of a server or a client, as traits that say what each call does to what they hold:
+//! streams and connections, files, a clock, a source of random words.
+//!
+//! Each trait counts its faults, so a caller can say that it answers a fault only where one came.
+//! What an object holds is optional: a form in memory tells it, an adapter over the real thing tells nothing.
+#![tactic(auto)]
+
+mod clock;
+mod files;
+mod stream;
+mod words;
+
+pub use clock::Clock;
+pub use files::{Ending, FileAnswer, Files, Replaced};
+pub use stream::{Failed, Link, Sink, Source, Wrote};
+pub use words::Words;
