@@ -2,9 +2,11 @@
 #![tactic(auto)]
 
 mod items;
+mod names;
 mod octets;
 mod sequence;
 
 pub use items::{Item, ItemList, OctetsList, Param, ParamList, Quoting, Rest, Role};
+pub use names::{has_repeat, same_name, value_of};
 pub use octets::{Octets, OutOfMemory};
 pub use sequence::Sequence;
