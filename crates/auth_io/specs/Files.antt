@@ -15,6 +15,15 @@ use Rattle.auth_io.specs.declared.files.Replaced.TheVariants.{Done, Failed as No
 abbrev pub Contents : Type 0
 Contents = map.FinMap (slice_cmp nat_cmp) (List ℕ)
 
+-- the contents that a list of names and bytes spells. Of two entries with one name the first counts
+abbrev pub contents_of : List (List ℕ × List ℕ) → Contents
+contents_of entries = map.from_entries entries
+
+-- the bytes of a name, if it is told that it is there
+abbrev pub found_in : Option Contents → List ℕ → Option (List ℕ)
+found_in None name = None
+found_in (Some m) name = map.get m name
+
 -- Where the contents are told, a read answers by them.
 abbrev pub ReadAnswers : Option Contents → List ℕ → ℕ → FileAnswer → Type 0
 ReadAnswers None name limit answer = ⊤
@@ -69,3 +78,11 @@ abbrev pub ReplaceSays : Option Contents → Option Contents → Option (List (L
 ReplaceSays old new asked asked' name bytes Done = (new ≡ contents_after old name bytes Well) × AddsAsked asked asked' ((name, Well) ∷ [])
 ReplaceSays old new asked asked' name bytes NotReplaced = (ending : Ending) × IsFailure ending × (new ≡ contents_after old name bytes ending) × AddsAsked asked asked' ((name, ending) ∷ [])
 ReplaceSays old new asked asked' name bytes NoMemory = (new ≡ old) × (asked' ≡ asked)
+
+-- no fault of the files
+abbrev pub IsNoReadFault : FileAnswer → Type 0
+IsNoReadFault (Found bytes) = ⊤
+IsNoReadFault Absent = ⊤
+IsNoReadFault TooLarge = ⊤
+IsNoReadFault Failed = ⊥
+IsNoReadFault OutOfMemory = ⊤

@@ -26,3 +26,9 @@ RoseAtFailed OutOfMemory before now = now ≡ before
 pub record HasWriteCause (before now : ℕ) (wrote : Wrote) : Type 0 where
   pub later : before ≤ now
   pub each : RoseAtFailed wrote before now
+
+-- no fault of the stream
+abbrev pub IsNoFault : Wrote → Type 0
+IsNoFault (Taken n) = ⊤
+IsNoFault Failed = ⊥
+IsNoFault OutOfMemory = ⊤

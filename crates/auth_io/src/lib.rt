@@ -7,10 +7,12 @@
 
 mod clock;
 mod files;
+mod memory;
 mod stream;
 mod words;
 
 pub use clock::Clock;
 pub use files::{Ending, FileAnswer, Files, Replaced};
+pub use memory::{MemClock, MemFiles, MemLink, MemSink, MemSource, MemWords, SureLink, SureWords};
 pub use stream::{Failed, Link, Sink, Source, Wrote};
 pub use words::Words;

@@ -1,0 +1,4 @@
+pub mod Scripted
+pub mod Later
+pub mod Passing
+pub mod Entries
