@@ -1,0 +1,10 @@
+pub mod HeadPlaceLemmas
+pub mod RequestLaws
+pub mod RequestHeadLemmas
+pub mod CheckLemmas
+pub mod JudgingLemmas
+pub mod SearchLemmas
+pub mod RequestFeedLemmas
+pub mod DateLemmas
+pub mod RequestRunLemmas
+pub mod FieldSizeLemmas

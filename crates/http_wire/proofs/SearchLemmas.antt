@@ -1,0 +1,196 @@
+-- The search for a head's end, step by step.
+use Rattle.std.proofs.Common.{◌≡◌, ◌∷◌, [], ◌++◌, ◌<◌, ◌≤◌, ◌+◌, ◌-◌, ℕ, suc, List, length, take, drop, Option, Some, None, Bool, true, false, cond, sym, refl, ap, ◌∙◌, subst, length-append, length-drop, arith}
+use Rattle.std.specs.Prelude.{◌==◌, ◌&&◌, nat_lt}
+use Rattle.std.specs.Option.{option_map}
+use Rattle.std.proofs.lemmas.Bool.{lt-ltb}
+use Rattle.std.proofs.lemmas.List.{append-nil, drop-append-le, drop-drop, take_all}
+use Rattle.http_wire.specs.declared.search.Place.TheVariants.{Blank, Head}
+use Rattle.http_wire.specs.HeadPlace.{empty_line, ends_here, blank_len, head_len, place_after, head_place}
+use Rattle.http_wire.specs.Search.{IsOpen, TellsLine, end_here, IsOpenEnd, TellsEnd, Tracks}
+
+-- ---- one empty line
+
+blank_if : (t s : Bool) (b c : ℕ) (bytes : List ℕ) → 0 < cond t 1 (cond s 2 0) →
+    cond t (suc (blank_len (c ∷ bytes))) (cond s (suc (suc (blank_len bytes))) 0) ≡ cond t 1 (cond s 2 0) + blank_len (drop (cond t 1 (cond s 2 0)) (b ∷ c ∷ bytes))
+blank_if true s b c bytes h = omega arith
+blank_if false true b c bytes h = omega arith
+blank_if false false b c bytes h = absurd (omega arith)
+
+one_if : (t : Bool) (b : ℕ) → 0 < cond t 1 0 → cond t 1 0 ≡ cond t 1 0 + blank_len (drop (cond t 1 0) (b ∷ []))
+one_if true b h = refl
+one_if false b h = absurd (omega arith)
+
+blank_front : (bytes : List ℕ) → 0 < empty_line bytes → blank_len bytes ≡ empty_line bytes + blank_len (drop (empty_line bytes) bytes)
+blank_front [] h = absurd (omega arith)
+blank_front (b ∷ []) h = one_if (b == 10) b h
+blank_front (b ∷ c ∷ bytes) h = blank_if (b == 10) (b == 13 && c == 10) b c bytes h
+
+-- the empty lines begin with the first
+pub blank_len_step : (bytes : List ℕ) (n : ℕ) → empty_line bytes ≡ n → 0 < n → blank_len bytes ≡ n + blank_len (drop n bytes)
+blank_len_step bytes n e h = let P : ℕ → Type 0 = λ k. 0 < k → blank_len bytes ≡ k + blank_len (drop k bytes) in subst P e (blank_front bytes) h
+
+none_if : (t s : Bool) (k l : ℕ) → ◌≡◌ {A = ℕ} (cond t 1 (cond s 2 0)) 0 → ◌≡◌ {A = ℕ} (cond t (suc k) (cond s (suc (suc l)) 0)) 0
+none_if true s k l h = absurd (omega arith)
+none_if false true k l h = absurd (omega arith)
+none_if false false k l h = refl
+
+pub blank_len_none : (bytes : List ℕ) → empty_line bytes ≡ 0 → blank_len bytes ≡ 0
+blank_len_none [] h = refl
+blank_len_none (b ∷ []) h = h
+blank_len_none (b ∷ c ∷ bytes) h = none_if (b == 10) (b == 13 && c == 10) (blank_len (c ∷ bytes)) (blank_len bytes) h
+
+-- what is open holds no head
+pub open_blank : (bytes : List ℕ) → IsOpen bytes → (blank_len bytes ≡ 0) × (empty_line bytes ≡ 0) × (head_len bytes ≡ None)
+open_blank [] h = (refl, refl, refl)
+open_blank (b ∷ []) h = let P : ℕ → Type 0 = λ x. (blank_len (x ∷ []) ≡ 0) × (empty_line (x ∷ []) ≡ 0) × (head_len (x ∷ []) ≡ None) in subst P (sym h) (refl, refl, refl)
+open_blank (b ∷ c ∷ bytes) h = absurd h
+
+-- ---- a head's end
+
+abbrev placed : ℕ → ℕ → ℕ → ℕ × ℕ
+placed start at n = (start, at + n)
+
+map_map : (o : Option ℕ) (start at : ℕ) → option_map (placed start at) (option_map suc o) ≡ option_map (placed start (at + 1)) o
+map_map None start at = refl
+map_map (Some n) start at = let e : at + suc n ≡ (at + 1) + n = omega arith in ap (λ (k : ℕ). Some (start, k)) e
+
+end_if : (t : Bool) (n : ℕ) (o : Option ℕ) → cond t (suc n) 0 ≡ 0 → cond t (Some (suc n)) o ≡ o
+end_if true n o h = absurd (omega arith)
+end_if false n o h = refl
+
+-- no end at the first byte
+head_len_step : (b : ℕ) (bytes : List ℕ) → end_here (b ∷ bytes) ≡ 0 → head_len (b ∷ bytes) ≡ option_map suc (head_len bytes)
+head_len_step b bytes h = end_if (ends_here b bytes) (empty_line bytes) (option_map suc (head_len bytes)) h
+
+found_if : (t : Bool) (n m : ℕ) (o : Option ℕ) → cond t (suc n) 0 ≡ m → 0 < m → cond t (Some (suc n)) o ≡ Some m
+found_if true n m o h l = ap Some h
+found_if false n m o h l = absurd (omega arith)
+
+head_len_here : (bytes : List ℕ) (n : ℕ) → end_here bytes ≡ n → 0 < n → head_len bytes ≡ Some n
+head_len_here [] n h l = absurd (omega arith)
+head_len_here (b ∷ bytes) n h l = found_if (ends_here b bytes) (empty_line bytes) n (option_map suc (head_len bytes)) h l
+
+open_end : (bytes : List ℕ) → IsOpenEnd bytes → head_len bytes ≡ None
+open_end [] h = refl
+open_end (b ∷ bytes) h =
+    let parts = open_blank bytes h.1 in
+    ap (λ (e : ℕ). cond (b == 10 && nat_lt 0 e) (Some (suc e)) (option_map suc (head_len bytes))) parts.1
+    ∙ none (b == 10) (option_map suc (head_len bytes)) ∙ ap (option_map suc) parts.2
+  where
+    none : (t : Bool) (o : Option ℕ) → cond (t && nat_lt 0 0) (Some 1) o ≡ o
+    none true o = refl
+    none false o = refl
+
+-- ---- the steps of the search
+
+cut : (at : ℕ) (bytes more : List ℕ) → at ≤ length bytes → drop at (bytes ++ more) ≡ drop at bytes ++ more
+cut at bytes more l = drop-append-le at bytes more l
+
+drop_none : (at : ℕ) (bytes : List ℕ) → drop at (bytes ++ []) ≡ drop at bytes
+drop_none at bytes = ap (drop at) (append-nil bytes)
+
+module _ (bytes : List ℕ) (at : ℕ) where
+  pub blank_step : (n : ℕ) → Tracks bytes (Blank at) → TellsLine (drop at bytes) (Some n) → 0 < n → Tracks bytes (Blank (at + n))
+  blank_step n t tells l =
+      let size : length (drop at bytes) ≡ length bytes - at = length-drop at bytes in
+      let within : at ≤ length bytes = t.within in
+      record {
+        within = let le : n ≤ length (drop at bytes) = tells.0 in omega arith;
+        goes_on = λ more.
+            let s = bytes ++ more in
+            let step : blank_len (drop at s) ≡ n + blank_len (drop n (drop at s)) = blank_len_step (drop at s) n (ap empty_line (cut at bytes more within) ∙ tells.1 more) l in
+            let both : drop n (drop at s) ≡ drop (at + n) s = drop-drop n at s in
+            let sum : at + blank_len (drop at s) ≡ (at + n) + blank_len (drop (at + n) s) =
+            ap (λ (k : ℕ). at + k) (step ∙ ap (λ (d : List ℕ). n + blank_len d) both) ∙ regroup at n (blank_len (drop (at + n) s)) in
+            t.goes_on more ∙ ap (λ (k : ℕ). place_after k s) sum;
+      }
+    where
+      regroup : (a b c : ℕ) → a + (b + c) ≡ (a + b) + c
+      regroup a b c = omega arith
+
+  pub blank_end : Tracks bytes (Blank at) → TellsLine (drop at bytes) (Some 0) → Tracks bytes (Head at at)
+  blank_end t tells = record {
+    within = t.within;
+    goes_on = λ more.
+        let none : blank_len (drop at (bytes ++ more)) ≡ 0 = blank_len_none (drop at (bytes ++ more)) (ap empty_line (cut at bytes more t.within) ∙ tells.1 more) in
+        let sum : at + blank_len (drop at (bytes ++ more)) ≡ at = omega arith in
+        t.goes_on more ∙ ap (λ (k : ℕ). place_after k (bytes ++ more)) sum;
+  }
+
+  pub blank_open : Tracks bytes (Blank at) → TellsLine (drop at bytes) None → head_place bytes ≡ None
+  blank_open t unsure =
+      let parts = open_blank (drop at bytes) unsure in
+      let none : blank_len (drop at (bytes ++ [])) ≡ 0 = ap blank_len (drop_none at bytes) ∙ parts.0 in
+      let sum : at + blank_len (drop at (bytes ++ [])) ≡ at = omega arith in
+      ap head_place (sym (append-nil bytes)) ∙ t.goes_on [] ∙ ap (λ (k : ℕ). place_after k (bytes ++ [])) sum
+      ∙ ap (λ (o : Option ℕ). option_map (λ n. (at, at + n)) o) (ap head_len (drop_none at bytes) ∙ parts.2)
+
+module _ (bytes : List ℕ) (start at : ℕ) where
+  pub head_step : Tracks bytes (Head start at) → TellsEnd (drop at bytes) (Some 0) → Tracks bytes (Head start (at + 1))
+  head_step t tells =
+      let size : length (drop at bytes) ≡ length bytes - at = length-drop at bytes in
+      record {
+        within = omega (arith, tells.1);
+        goes_on = λ more.
+            let s = bytes ++ more in
+            let one : drop 1 (drop at s) ≡ drop (at + 1) s = drop-drop 1 at s in
+            let none : end_here (drop at s) ≡ 0 = ap end_here (cut at bytes more t.within) ∙ tells.2 more in
+            let size2 : length (drop at s) ≡ length (bytes ++ more) - at = length-drop at s in
+            let all : length (bytes ++ more) ≡ length bytes + length more = length-append bytes more in
+            let long : 0 < length (drop at s) = omega (arith, tells.1) in
+            t.goes_on more ∙ ap (λ (o : Option ℕ). option_map (λ n. (start, at + n)) o) (step (drop at s) long none ∙ ap (λ (d : List ℕ). option_map suc (head_len d)) one)
+            ∙ map_map (head_len (drop (at + 1) s)) start at;
+      }
+    where
+      step : (d : List ℕ) → 0 < length d → end_here d ≡ 0 → head_len d ≡ option_map suc (head_len (drop 1 d))
+      step [] l h = absurd (omega arith)
+      step (b ∷ d) l h = head_len_step b d h
+
+  here : Tracks bytes (Head start at) → head_place bytes ≡ option_map (λ n. (start, at + n)) (head_len (drop at bytes))
+  here t = ap head_place (sym (append-nil bytes)) ∙ t.goes_on [] ∙ ap (λ (d : List ℕ). option_map (λ n. (start, at + n)) (head_len d)) (drop_none at bytes)
+
+  pub head_found : (n : ℕ) → Tracks bytes (Head start at) → TellsEnd (drop at bytes) (Some n) → 0 < n → head_place bytes ≡ Some (start, at + n)
+  head_found n t tells l =
+      here t ∙ ap (λ (o : Option ℕ). option_map (λ n. (start, at + n)) o) (head_len_here (drop at bytes) n (ap end_here (sym (append-nil (drop at bytes))) ∙ tells.2 []) l)
+
+  pub head_open : Tracks bytes (Head start at) → TellsEnd (drop at bytes) None → head_place bytes ≡ None
+  head_open t unsure = here t ∙ ap (λ (o : Option ℕ). option_map (λ n. (start, at + n)) o) (open_end (drop at bytes) unsure)
+
+-- ---- the same at what `&bytes[at..]` is
+
+pub rest_is : (bytes : List ℕ) (at : ℕ) → take (length bytes - at) (drop at bytes) ≡ drop at bytes
+rest_is bytes at = let size : length (drop at bytes) ≡ length bytes - at = length-drop at bytes in take_all (length bytes - at) (drop at bytes) (omega arith)
+
+pub line_at : (bytes : List ℕ) (at : ℕ) (o : Option ℕ) → TellsLine (take (length bytes - at) (drop at bytes)) o → TellsLine (drop at bytes) o
+line_at bytes at o t = subst (λ (d : List ℕ). TellsLine d o) (rest_is bytes at) t
+
+pub ends_at : (bytes : List ℕ) (at : ℕ) (o : Option ℕ) → TellsEnd (take (length bytes - at) (drop at bytes)) o → TellsEnd (drop at bytes) o
+ends_at bytes at o t = subst (λ (d : List ℕ). TellsEnd d o) (rest_is bytes at) t
+
+pub line_none : (bytes : List ℕ) (at n : ℕ) → n ≡ 0 → TellsLine (take (length bytes - at) (drop at bytes)) (Some n) → TellsLine (drop at bytes) (Some 0)
+line_none bytes at n e t = subst (λ (k : ℕ). TellsLine (drop at bytes) (Some k)) e (line_at bytes at (Some n) t)
+
+pub end_none : (bytes : List ℕ) (at n : ℕ) → n ≡ 0 → TellsEnd (take (length bytes - at) (drop at bytes)) (Some n) → TellsEnd (drop at bytes) (Some 0)
+end_none bytes at n e t = subst (λ (k : ℕ). TellsEnd (drop at bytes) (Some k)) e (ends_at bytes at (Some n) t)
+
+-- ---- empty lines alone
+
+pub begun_open : (bytes : List ℕ) (at : ℕ) → blank_len bytes ≡ at + blank_len (drop at bytes) → TellsLine (drop at bytes) None → blank_len bytes ≡ at
+begun_open bytes at blank t = let none : blank_len (drop at bytes) ≡ 0 = (open_blank (drop at bytes) t).0 in omega arith
+
+some_byte : (d : List ℕ) → TellsLine d (Some 0) → 0 < length d
+some_byte [] t = let one : ◌≡◌ {A = ℕ} 1 0 = t.1 (10 ∷ []) in absurd (omega arith)
+some_byte (b ∷ d) t = omega arith
+
+pub begun_some : (bytes : List ℕ) (at : ℕ) → blank_len bytes ≡ at + blank_len (drop at bytes) → TellsLine (drop at bytes) (Some 0) → nat_lt (blank_len bytes) (length bytes) ≡ true
+begun_some bytes at blank t =
+    let size : length (drop at bytes) ≡ length bytes - at = length-drop at bytes in
+    let more : 0 < length (drop at bytes) = some_byte (drop at bytes) t in
+    let none : blank_len (drop at bytes) ≡ 0 = blank_len_none (drop at bytes) (ap empty_line (sym (append-nil (drop at bytes))) ∙ t.1 []) in
+    lt-ltb (blank_len bytes) (length bytes) (omega arith)
+
+pub begun_more : (bytes : List ℕ) (at n : ℕ) → blank_len bytes ≡ at + blank_len (drop at bytes) → TellsLine (drop at bytes) (Some n) → 0 < n → blank_len bytes ≡ at + n + blank_len (drop (at + n) bytes)
+begun_more bytes at n blank t l =
+    let step : blank_len (drop at bytes) ≡ n + blank_len (drop n (drop at bytes)) = blank_len_step (drop at bytes) n (ap empty_line (sym (append-nil (drop at bytes))) ∙ t.1 []) l in
+    let both : blank_len (drop n (drop at bytes)) ≡ blank_len (drop (at + n) bytes) = ap blank_len (drop-drop n at bytes) in
+    omega arith

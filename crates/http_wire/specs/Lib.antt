@@ -1,0 +1,13 @@
+pub mod Texts
+pub mod HeadPlace
+pub mod RequestHead
+pub mod Fields
+pub mod RequestChecks
+pub mod Requests
+pub mod ParsedRequest
+pub mod Search
+pub mod RequestPhase
+pub mod RequestFeed
+pub mod RequestRuns
+pub mod Dates
+pub mod Answers

@@ -1,0 +1,88 @@
+-- What a request's head asks for, and which fault it has.
+use Rattle.std.specs.Prelude.{ℕ, Bool, true, false, ◌&&◌, ◌||◌, not, List, [], ◌∷◌, if◌then◌else◌, ◌==◌, nat_lt, nat_le, Option, Some, None, map, codes}
+use Rattle.std.specs.List.{list_all}
+use Rattle.std.specs.Str.Parse.{digits_value}
+use Rattle.httparse.specs.Grammar.{RequestHead}
+use Rattle.httparse.specs.Spans.{name_and_value}
+use Rattle.http_wire.specs.declared.request_head.SoundHead.{SoundHead}
+use Rattle.http_wire.specs.declared.request_head.Judged.{Judged}
+use Rattle.http_wire.specs.declared.request_head.Judged.TheVariants.{Sound, Faulty}
+use Rattle.http_wire.specs.Texts.{is_empty, is_number, same_name, has_token, line_feeds}
+use Rattle.http_wire.specs.RequestHead.{read_head}
+use Rattle.http_wire.specs.Fields.{Pairs, fields_of, values_of}
+
+-- the Content-Length, 0 where there is none
+abbrev pub first_number : List (List ℕ) → ℕ
+first_number [] = 0
+first_number (value ∷ values) = digits_value 10 value
+
+-- at most one, with one or more digits
+abbrev pub are_lengths : List (List ℕ) → Bool
+are_lengths [] = true
+are_lengths (value ∷ []) = is_number value
+are_lengths (value ∷ next ∷ values) = false
+
+-- more than one Host, or none with HTTP/1.1
+abbrev pub is_wrong_host : ℕ → List (List ℕ) → Bool
+is_wrong_host minor [] = minor == 1
+is_wrong_host minor (value ∷ []) = false
+is_wrong_host minor (value ∷ next ∷ values) = true
+
+-- what the values of the named fields say
+pub record Named : Type 0 where
+  pub hosts : List (List ℕ)
+  pub codings : List (List ℕ)
+  pub lengths : List (List ℕ)
+  pub expects : List (List ℕ)
+  pub connections : List (List ℕ)
+
+unfoldable pub named_of : Pairs → Named
+named_of fields = record {
+  hosts = values_of fields (codes "host");
+  codings = values_of fields (codes "transfer-encoding");
+  lengths = values_of fields (codes "content-length");
+  expects = values_of fields (codes "expect");
+  connections = values_of fields (codes "connection");
+}
+
+-- the first fault of a head, by the status that tells it
+unfoldable pub fault_of : ℕ → Named → Option ℕ
+fault_of minor n =
+    if is_wrong_host minor n.hosts then Some 400
+    else if not (is_empty n.codings) then Some 411
+    else if not (are_lengths n.lengths) then Some 400
+    else if not (nat_le (first_number n.lengths) 1048576) then Some 413
+    else if not (list_all (λ value. same_name value (codes "100-continue")) n.expects) then Some 417
+    else None
+
+-- what a head asks for
+unfoldable pub sound_head : List ℕ → List ℕ → ℕ → Pairs → Named → SoundHead
+sound_head method target minor fields n = record {
+  method = method;
+  target = target;
+  minor = minor;
+  fields = fields;
+  body_len = first_number n.lengths;
+  closes = minor == 0 || has_token n.connections (codes "close");
+  expects = (minor == 1 && not (is_empty n.expects)) && nat_lt 0 (first_number n.lengths);
+}
+
+abbrev pub judge_fault : Option ℕ → SoundHead → Judged
+judge_fault (Some status) head = Faulty status
+judge_fault None head = Sound head
+
+unfoldable pub judge_fields : List ℕ → List ℕ → ℕ → Pairs → Judged
+judge_fields method target minor fields = judge_fault (fault_of minor (named_of fields)) (sound_head method target minor fields (named_of fields))
+
+-- where each name is one of a header map
+abbrev pub judge_named : RequestHead → Option Pairs → Judged
+judge_named h None = Faulty 400
+judge_named h (Some fields) = judge_fields h.method h.target h.minor fields
+
+abbrev pub judge_head : Option RequestHead → Judged
+judge_head None = Faulty 400
+judge_head (Some h) = judge_named h (fields_of (map name_and_value h.fields))
+
+-- the text of a head, checked in head
+unfoldable pub judge : List ℕ → Judged
+judge text = if nat_lt 66 (line_feeds text) then Faulty 431 else judge_head (read_head text)

@@ -1,0 +1,32 @@
+-- What a feed gives over a whole stream.
+use Rattle.std.specs.Prelude.{◌≡◌, ℕ, ◌+◌, Bool, true, false, List, ◌++◌, length}
+use Rattle.http_wire.specs.declared.request.Request.{Request}
+use Rattle.http_wire.specs.Requests.{Unfinished, Wrong, IsWhole, front, Cuts}
+use Rattle.http_wire.specs.RequestFeed.{Held}
+
+-- the stream is these messages, and no whole one stands behind them
+pub record IsAllOf (bytes : List ℕ) (requests : List Request) : Type 0 where
+  pub rest : List ℕ
+  pub cuts : Cuts bytes requests rest
+  pub none : IsWhole (front rest) → ⊥
+
+-- where it goes on more may come, else a bad one stands there
+abbrev pub Stands : Held → Bool → Type 0
+Stands new true = ((due : Bool) × (front new.rest ≡ Unfinished due)) × (new.stopped ≡ false)
+Stands new false = (status : ℕ) × (front new.rest ≡ Wrong status)
+
+-- whole messages were taken
+pub record Takes (old new : Held) (before after : List Request) (on : Bool) : Type 0 where
+  pub more : List Request
+  pub items : after ≡ before ++ more
+  pub cuts : Cuts old.rest more new.rest
+  pub count : new.at + length new.rest ≡ old.at + length old.rest
+  pub stands : Stands new on
+
+-- so far
+pub record Took (old new : Held) (before after : List Request) : Type 0 where
+  pub more : List Request
+  pub items : after ≡ before ++ more
+  pub cuts : Cuts old.rest more new.rest
+  pub count : new.at + length new.rest ≡ old.at + length old.rest
+  pub goes : new.stopped ≡ false

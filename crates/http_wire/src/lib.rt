@@ -1,0 +1,20 @@
+//! Messages of HTTP/1.1 on a connection (RFC 9112): how a stream of bytes is cut into requests,
+//! and the text of replies.
+#![tactic(auto)]
+
+mod answer;
+mod checks;
+mod fields;
+mod pair;
+mod phase;
+mod request;
+mod request_feed;
+mod request_head;
+mod search;
+mod text;
+
+pub use answer::{Answer, continue_text, status_body, write_answer};
+pub use fields::Fields;
+pub use pair::{Pair, PairList};
+pub use request::{Next, Request};
+pub use request_feed::RequestFeed;

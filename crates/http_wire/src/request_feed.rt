@@ -1,0 +1,258 @@
+//! A stream of requests, which comes in pieces.
+ghost use Rattle.std.specs.Prelude.{if◌then◌else◌, Bool, IsTrue, ◌↔◌, ◌≡◌, ◌≤◌, ◌<◌, ◌+◌, ◌^◌, ◌++◌, [], ℕ, List, length, take, drop, OnOk, OnErr, IfOk, true, false, not, ◌&&◌, Option, Some, None};
+ghost use Rattle.http_wire.specs.Search.{Tracks};
+ghost use Rattle.http_wire.specs.RequestPhase.{IsPhase, IsSettled, is_stopped};
+ghost use Rattle.http_wire.specs.RequestFeed.{Gives, pushed, Held};
+ghost use Rattle.std.specs.List.{concat};
+ghost use Rattle.http_wire.specs.RequestRuns.{Takes, IsAllOf};
+ghost use Rattle.http_wire.specs.Requests.{front, Unfinished, begun_at};
+
+use crate::phase::Phase;
+use crate::request::{Next, Request};
+use crate::request_head::{Judged, SoundHead, judge_text};
+use crate::search::{Place, Search, find_head, line_here};
+use auth_grammar::{Octets, OutOfMemory};
+use std::alloc::Global;
+use std::marker::Model;
+use std::mem;
+
+/// The most bytes of a head, with the empty lines before it.
+pub const HEAD_LIMIT: usize = 16_384;
+
+/// A stream of requests, seen as the bytes after the messages that it gave.
+#[derive(Drop)]
+pub struct RequestFeed {
+    alloc: Global,
+    bytes: Vec<u8>,
+    at: u64,
+    told: bool,
+    phase: Phase,
+}
+
+impl Model for RequestFeed {
+    ghost use Rattle.std.specs.Prelude.{◌<◌, ◌+◌, ◌^◌, length};
+    ghost use Rattle.http_wire.specs.RequestFeed.{Held};
+
+    ghost Value = { Held };
+
+    ghost use Rattle.http_wire.specs.RequestPhase.{is_stopped, IsPhase};
+
+    ghost view = { λ f. record { rest = f.bytes.items; at = f.at; told = f.told; stopped = is_stopped f.phase } };
+
+    ghost invariant = { λ f. IsPhase f.bytes.items f.phase × (f.at + length f.bytes.items < 2 ^ 63) };
+}
+
+// the bytes in which a head must end
+fn window(bytes: &[u8]) -> &[u8]
+    ensures { result.now ≡ take 16384 bytes.now }
+{
+    if bytes.len() < HEAD_LIMIT {
+        bytes
+    } else {
+        &bytes[..HEAD_LIMIT]
+    }
+}
+
+// looks at the bytes that came, from a place on
+fn look(alloc: Global, bytes: &[u8], place: Place) -> Result<Phase, OutOfMemory>
+    requires { Tracks (take 16384 bytes.now) place }
+    ensures { IfOk result (λ phase. IsSettled bytes.now phase) }
+{
+    let first = window(bytes);
+    match find_head(first, place) {
+        Search::At { start, end } => match judge_text(alloc, &first[start..end])? {
+            Judged::Sound(head) => Ok(Phase::Body { head, start, end }),
+            Judged::Faulty(status) => Ok(Phase::Stopped { status }),
+        },
+        Search::Missing(place) => {
+            if bytes.len() < HEAD_LIMIT {
+                Ok(Phase::Searching(place))
+            } else {
+                Ok(Phase::Stopped { status: 431 })
+            }
+        }
+    }
+}
+
+// looks at the bytes that came
+fn settle(alloc: Global, bytes: &[u8], phase: &mut Phase) -> Result<(), OutOfMemory>
+    requires { IsPhase bytes.now phase.old }
+    ensures ok { OnOk result (IsSettled bytes.now phase.new) }
+    ensures kept { is_stopped phase.old ≡ true → is_stopped phase.new ≡ true }
+    ensures err { OnErr result (phase.new ≡ phase.old) }
+{
+    if let Phase::Searching(place) = phase {
+        *phase = look(alloc, bytes, *place)?;
+    }
+    Ok(())
+}
+
+impl RequestFeed {
+    /// A stream from which nothing came.
+    pub fn new(alloc: Global) -> RequestFeed
+        ensures { result ≡ record { rest = []; at = 0; told = false; stopped = false } }
+    {
+        RequestFeed {
+            alloc,
+            bytes: Vec::new(alloc),
+            at: 0,
+            told: false,
+            phase: Phase::Searching(Place::Blank { start: 0 }),
+        }
+    }
+
+    /// Whether that many bytes more may be pushed.
+    pub fn has_room(&self, more: usize) -> bool
+        ensures { IsTrue result ↔ (self.now.at + length self.now.rest + more < 2 ^ 63) }
+    {
+        (self.at as u128) + (self.bytes.len() as u128) + (more as u128) < 1 << 63
+    }
+
+    /// Takes the next piece of the stream. Behind a bad message it does nothing.
+    pub fn push(&mut self, piece: &[u8]) -> Result<(), OutOfMemory>
+        requires { self.old.at + length self.old.rest + length piece.now < 2 ^ 63 }
+        ensures ok { OnOk result (self.new ≡ pushed self.old piece.now) }
+        ensures err { OnErr result (self.new ≡ self.old) }
+    {
+        if matches!(self.phase, Phase::Stopped { .. }) {
+            return Ok(());
+        }
+        self.bytes.extend_from_slice(piece)?;
+        Ok(())
+    }
+
+    /// What stands at the front of the bytes that came.
+    pub fn next(&mut self) -> Next
+        ensures { Gives self.old self.new result }
+    {
+        let Ok(()) = settle(self.alloc, self.bytes.as_slice(), &mut self.phase) else {
+            return Next::OutOfMemory;
+        };
+        match mem::replace(&mut self.phase, Phase::Searching(Place::Blank { start: 0 })) {
+            Phase::Searching(place) => {
+                self.phase = Phase::Searching(place);
+                Next::NeedMore
+            }
+            Phase::Stopped { status } => {
+                self.phase = Phase::Stopped { status };
+                Next::Bad {
+                    status,
+                    at: self.at,
+                }
+            }
+            Phase::Body { head, start, end } => {
+                if owes(head.expects, self.told) {
+                    self.told = true;
+                    self.phase = Phase::Body { head, start, end };
+                    return Next::Continue;
+                }
+                let rest = behind(self.bytes.as_slice(), end);
+                if rest.len() < head.body_len as usize {
+                    self.phase = Phase::Body { head, start, end };
+                    return Next::NeedMore;
+                }
+                let Ok((body, rest)) = parted(self.alloc, rest, head.body_len as usize) else {
+                    self.phase = Phase::Body { head, start, end };
+                    return Next::OutOfMemory;
+                };
+                self.at += (self.bytes.len() - rest.len()) as u64;
+                self.bytes = rest;
+                self.told = false;
+                Next::Message(Request {
+                    method: head.method,
+                    target: head.target,
+                    minor: head.minor,
+                    fields: head.fields,
+                    body,
+                    closes: head.closes,
+                })
+            }
+        }
+    }
+
+    /// The place of the bytes that weren't given yet, or None where they are whole empty lines alone.
+    /// After `NeedMore` that is the place of a message that has begun and isn't whole.
+    pub fn rest(&self) -> Option<u64>
+        ensures { result ≡ (if begun_at self.now.rest then Some self.now.at else None) }
+    {
+        if has_begun(self.bytes.as_slice()) {
+            Some(self.at)
+        } else {
+            None
+        }
+    }
+}
+
+// whether not whole empty lines alone came
+fn has_begun(bytes: &[u8]) -> bool
+    ensures { result ≡ begun_at bytes.now }
+{
+    let mut at = 0;
+    'lines: loop {
+        match line_here(&bytes[at..]) {
+            None => return at < bytes.len(),
+            Some(0) => return true,
+            Some(n) => at += n,
+        }
+    }
+}
+
+// whether a Continue is to be given
+fn owes(expects: bool, told: bool) -> bool
+    ensures { result ≡ (expects && not told) }
+{
+    expects && !told
+}
+
+// the bytes from a place on
+fn behind(bytes: &[u8], at: usize) -> &[u8]
+    requires { at ≤ length bytes.now }
+    ensures { result.now ≡ drop at bytes.now }
+{
+    &bytes[at..]
+}
+
+// the first bytes, and the others
+fn parted(alloc: Global, bytes: &[u8], len: usize) -> Result<(Octets, Vec<u8>), OutOfMemory>
+    requires { len ≤ length bytes.now }
+    ensures body { IfOk result (λ parts. parts.0 ≡ take len bytes.now) }
+    ensures rest { IfOk result (λ parts. parts.1.items ≡ drop len bytes.now) }
+{
+    let first = Octets::of(alloc, &bytes[..len])?;
+    let rest = Vec::from_slice(alloc, &bytes[len..])?;
+    Ok((first, rest))
+}
+
+/// The requests of a stream that comes in these pieces, up to the first bad one.
+pub fn requests_of(alloc: Global, pieces: &[Octets]) -> Result<Vec<Request>, OutOfMemory>
+    requires { length (concat pieces.now) < 2 ^ 63 }
+    // However the stream was cut into pieces, these are its messages, and no whole one stands behind them.
+    ensures { IfOk result (λ requests. IsAllOf (concat pieces.now) requests.items) }
+{
+    let mut feed = RequestFeed::new(alloc);
+    let mut requests = Vec::new(alloc);
+    for piece in pieces {
+        feed.push(piece.bytes())?;
+        let on = take_whole(&mut feed, &mut requests)?;
+        if !on {
+            return Ok(requests);
+        }
+    }
+    Ok(requests)
+}
+
+// takes all whole messages; whether no bad one stands behind them
+fn take_whole(feed: &mut RequestFeed, requests: &mut Vec<Request>) -> Result<bool, OutOfMemory>
+    requires { feed.old.stopped ≡ false }
+    ensures { IfOk result (Takes feed.old feed.new requests.old.items requests.new.items) }
+{
+    loop {
+        match feed.next() {
+            Next::Message(request) => requests.push(request)?,
+            Next::Continue => {}
+            Next::NeedMore => return Ok(true),
+            Next::Bad { .. } => return Ok(false),
+            Next::OutOfMemory => return Err(OutOfMemory),
+        }
+    }
+}

@@ -1,0 +1,79 @@
+//! The head of a request, checked.
+ghost use Rattle.std.specs.Prelude.{◌≡◌, ◌≤◌, ℕ, length, IfOk, true};
+ghost use Rattle.http_wire.specs.Texts.{line_feeds};
+ghost use Rattle.http_wire.specs.RequestChecks.{judge};
+ghost use Rattle.http_wire.specs.ParsedRequest.{FindsHead};
+ghost use Rattle.http_wire.specs.HeadPlace.{empty_line};
+
+use crate::checks::{check_fields, read_fields};
+use crate::fields::Fields;
+use auth_grammar::{Octets, OutOfMemory};
+use httparse::Status;
+use httparse::spans::{EMPTY_HEADER_SPAN, HeaderSpan, RequestSpans, parse_request};
+use std::alloc::Global;
+
+/// A head without a fault: what stands in it.
+#[derive(Drop)]
+pub(crate) struct SoundHead {
+    pub method: Octets,
+    pub target: Octets,
+    pub minor: u8,
+    pub fields: Fields,
+    pub body_len: u32,
+    pub closes: bool,
+    pub expects: bool,
+}
+
+/// A head, or the status that tells its first fault.
+#[derive(Drop)]
+pub(crate) enum Judged {
+    Sound(SoundHead),
+    Faulty(u16),
+}
+
+fn count_lines(text: &[u8]) -> usize
+    ensures { result ≡ line_feeds text.now }
+{
+    text.iter().filter(|b| **b == 10).count()
+}
+
+// the spans of the head that the text is, if it is one
+fn parse(text: &[u8], headers: &mut [HeaderSpan]) -> Option<RequestSpans>
+    requires room { length headers.old ≡ 64 }
+    requires no_blank { empty_line text.now ≡ 0 }
+    requires few { line_feeds text.now ≤ 66 }
+    ensures { FindsHead text.now headers.new result }
+{
+    match parse_request(text, headers) {
+        Ok(Status::Complete(head)) => {
+            if head.len == text.len() {
+                Some(head)
+            } else {
+                None
+            }
+        }
+        Ok(Status::Partial) => None,
+        Err(_) => None,
+    }
+}
+
+/// Checks the text of a head.
+pub(crate) fn judge_text(alloc: Global, text: &[u8]) -> Result<Judged, OutOfMemory>
+    requires no_blank { empty_line text.now ≡ 0 }
+    requires short { length text.now ≤ 16384 }
+    ensures { IfOk result (λ judged. judged ≡ judge text.now) }
+{
+    if count_lines(text) > 66 {
+        return Ok(Judged::Faulty(431));
+    }
+    let mut headers = [EMPTY_HEADER_SPAN; 64];
+    let Some(head) = parse(text, &mut headers) else {
+        return Ok(Judged::Faulty(400));
+    };
+    let method = Octets::of(alloc, head.method.of(text))?;
+    let target = Octets::of(alloc, head.path.of(text))?;
+    match read_fields(alloc, text, &headers[..head.headers])? {
+        Some(fields) => Ok(check_fields(alloc, method, target, head.version, fields)?),
+        None => Ok(Judged::Faulty(400)),
+    }
+}

@@ -1,0 +1,86 @@
+//! The search for the end of a head.
+ghost use Rattle.std.specs.Prelude.{◌≡◌, ◌≤◌, ℕ, length};
+ghost use Rattle.http_wire.specs.Search.{Tracks, Finds, TellsLine, TellsEnd};
+
+/// How far a search has come.
+#[derive(Clone, Copy)]
+pub(crate) enum Place {
+    /// Empty lines alone, up to here.
+    Blank { start: usize },
+    /// A head that begins at `start` and doesn't end at a line feed before `from`.
+    Head { start: usize, from: usize },
+}
+
+/// Where the head is, or how far the search has come.
+#[derive(Clone, Copy)]
+pub(crate) enum Search {
+    At { start: usize, end: usize },
+    Missing(Place),
+}
+
+/// Searches on.
+pub(crate) fn find_head(bytes: &[u8], place: Place) -> Search
+    requires { Tracks bytes.now place }
+    ensures { Finds bytes.now result }
+{
+    match place {
+        Place::Blank { start } => search_blank(bytes, start),
+        Place::Head { start, from } => search_head(bytes, start, from),
+    }
+}
+
+// the length of the empty line at the front, 0 where none is there; none where the bytes that follow tell
+pub(crate) fn line_here(bytes: &[u8]) -> Option<usize>
+    ensures { TellsLine bytes.now result }
+{
+    match bytes {
+        [] => None,
+        [b'\n', ..] => Some(1),
+        [b'\r'] => None,
+        [b'\r', b'\n', ..] => Some(2),
+        [_, ..] => Some(0),
+    }
+}
+
+// how far from here the head's end is, 0 where its last line doesn't begin after this byte
+fn end_at(bytes: &[u8]) -> Option<usize>
+    ensures { TellsEnd bytes.now result }
+{
+    match bytes {
+        [] => None,
+        [b'\n', rest @ ..] => match line_here(rest) {
+            None => None,
+            Some(0) => Some(0),
+            Some(n) => Some(n + 1),
+        },
+        [_, ..] => Some(0),
+    }
+}
+
+fn search_blank(bytes: &[u8], start: usize) -> Search
+    requires { Tracks bytes.now (Place.Blank start) }
+    ensures { Finds bytes.now result }
+{
+    let mut at = start;
+    'lines: loop {
+        match line_here(&bytes[at..]) {
+            None => return Search::Missing(Place::Blank { start: at }),
+            Some(0) => return search_head(bytes, at, at),
+            Some(n) => at += n,
+        }
+    }
+}
+
+fn search_head(bytes: &[u8], start: usize, from: usize) -> Search
+    requires { Tracks bytes.now (Place.Head start from) }
+    ensures { Finds bytes.now result }
+{
+    let mut at = from;
+    'ends: loop {
+        match end_at(&bytes[at..]) {
+            None => return Search::Missing(Place::Head { start, from: at }),
+            Some(0) => at += 1,
+            Some(n) => return Search::At { start, end: at + n },
+        }
+    }
+}
