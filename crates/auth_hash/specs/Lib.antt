@@ -1,0 +1,4 @@
+pub mod Digits
+pub mod Hash
+pub mod Hasher
+pub mod HexText
