@@ -5,14 +5,19 @@
 //! What an object holds is optional: a form in memory tells it, an adapter over the real thing tells nothing.
 #![tactic(auto)]
 
+mod adapters;
 mod clock;
 mod files;
 mod memory;
 mod stream;
 mod words;
 
+pub use adapters::{DiskFiles, OsWords, StdLink, SystemClock};
 pub use clock::Clock;
 pub use files::{Ending, FileAnswer, Files, Replaced};
 pub use memory::{MemClock, MemFiles, MemLink, MemSink, MemSource, MemWords, SureLink, SureWords};
 pub use stream::{Failed, Link, Sink, Source, Wrote};
 pub use words::Words;
+
+#[cfg(test)]
+mod tests;

@@ -1,0 +1,12 @@
+//! Adapters over the real things. They count their faults, tell nothing of content, and are the trusted edge:
+//! what a real stream, file, clock or random source gave is not proved.
+
+mod clock;
+mod files;
+mod link;
+mod words;
+
+pub use clock::SystemClock;
+pub use files::DiskFiles;
+pub use link::StdLink;
+pub use words::OsWords;

@@ -1,0 +1,137 @@
+//! What no clause says: which calls the forms in memory fail, and that the adapters reach the real things.
+use crate::{
+    Clock, DiskFiles, FileAnswer, Files, Link, MemClock, MemFiles, MemLink, MemWords, OsWords,
+    Replaced, StdLink, SystemClock, Words, Wrote,
+};
+use auth_grammar::Octets;
+use std::alloc::Global;
+use std::process::Abort;
+use std::test::Fail;
+
+/// One read of up to 8 bytes gives these, or fails where they are None.
+fn check_gives<L: Link>(rt: &impl Abort, link: &mut L, wanted: Option<&[u8]>) {
+    let mut into = [0; 8];
+    match link.read(&mut into) {
+        Ok(count) => assert_eq!(rt; Some(&into[..count]), wanted),
+        Err(_) => assert!(rt; wanted.is_none()),
+    }
+}
+
+#[test]
+fn a_link_in_memory_gives_pieces_and_fails_when_told(rt: HostRuntime) -> Result<(), Fail> {
+    let alloc = rt.alloc();
+    let left = Octets::of(alloc, b"abcdef")?;
+    let pieces = vec![in alloc; 2, 0]?;
+    let takes = vec![in alloc; 1]?;
+    let mut link = MemLink::new(
+        alloc,
+        left,
+        pieces,
+        takes,
+        vec![in alloc; 3]?,
+        vec![in alloc; 2]?,
+        3,
+    )?;
+    check_gives(&rt, &mut link, Some(b"ab".as_slice()));
+    assert_eq!(rt; link.write(b"xy"), Wrote::Taken(1));
+    check_gives(&rt, &mut link, Some(b"c".as_slice()));
+    // the third read fails
+    check_gives(&rt, &mut link, None);
+    assert_eq!(rt; link.write(b"y"), Wrote::Failed);
+    check_gives(&rt, &mut link, Some(b"def".as_slice()));
+    // there is room for three reads
+    check_gives(&rt, &mut link, None);
+    assert_eq!(rt; link.written(), b"x".as_slice());
+    assert_eq!(rt; link.reads(), [(0, 0), (2, 1), (3, 1)].as_slice());
+    Ok(())
+}
+
+#[test]
+fn a_clock_and_words_in_memory_end_with_their_last(rt: HostRuntime) -> Result<(), Fail> {
+    let alloc = rt.alloc();
+    let mut clock = MemClock::new(vec![in alloc; 5, 3]?);
+    assert_eq!(rt; (clock.now(), clock.now(), clock.now()), (5, 3, 3));
+    let mut random = MemWords::new(vec![in alloc; [1; 16], [2; 16]]?, vec![in alloc; 2]?);
+    assert_eq!(rt; random.draw().ok(), Some([1; 16]));
+    assert_eq!(rt; random.draw().ok(), None);
+    assert_eq!(rt; random.draw().ok(), Some([2; 16]));
+    assert_eq!(rt; random.draw().ok(), Some([2; 16]));
+    assert_eq!(rt; MemClock::new(vec![in alloc]?).now(), 0);
+    Ok(())
+}
+
+/// A word for what a read answered.
+fn word_of(answer: &FileAnswer) -> &'static str {
+    match answer {
+        FileAnswer::Found(bytes) if bytes.bytes() == b"new".as_slice() => "new",
+        FileAnswer::Found(_) => "other",
+        FileAnswer::Absent => "absent",
+        FileAnswer::TooLarge => "too large",
+        FileAnswer::Failed => "failed",
+        FileAnswer::OutOfMemory => "out of memory",
+    }
+}
+
+fn check_read<F: Files>(rt: &impl Abort, files: &mut F, name: &[u8], limit: u64, word: &str) {
+    let answer = files.read(name, limit);
+    assert_eq!(rt; word_of(&answer), word);
+}
+
+#[test]
+fn files_in_memory_fail_before_and_after_they_are_replaced(rt: HostRuntime) -> Result<(), Fail> {
+    let alloc = rt.alloc();
+    let mut files = MemFiles::new(
+        alloc,
+        vec![in alloc]?,
+        vec![in alloc; 2]?,
+        vec![in alloc; 4]?,
+    );
+    check_read(&rt, &mut files, b"a", 9, "absent");
+    assert_eq!(rt; files.replace(b"a", b"new"), Replaced::Failed);
+    check_read(&rt, &mut files, b"a", 9, "absent");
+    assert_eq!(rt; files.replace(b"a", b"new"), Replaced::Failed);
+    check_read(&rt, &mut files, b"a", 3, "new");
+    check_read(&rt, &mut files, b"a", 2, "too large");
+    assert_eq!(rt; files.replace(b"a", b"old"), Replaced::Done);
+    check_read(&rt, &mut files, b"a", 9, "other");
+    Ok(())
+}
+
+#[test]
+fn files_on_disk_are_read_and_replaced(rt: HostRuntime) -> Result<(), Fail> {
+    let mut files = DiskFiles::new(&rt, rt.alloc());
+    check_read(&rt, &mut files, b"file", 9, "absent");
+    assert_eq!(rt; files.replace(b"file", b"old"), Replaced::Done);
+    assert_eq!(rt; files.replace(b"file", b"new"), Replaced::Done);
+    check_read(&rt, &mut files, b"file", 3, "new");
+    check_read(&rt, &mut files, b"file", 2, "too large");
+    check_read(&rt, &mut files, b"file/below", 9, "absent");
+    check_read(&rt, &mut files, b".", 9, "absent");
+    check_read(&rt, &mut files, b"a\0b", 9, "absent");
+    assert_eq!(rt; files.replace(b"no/folder", b"new"), Replaced::Failed);
+    Ok(())
+}
+
+#[test]
+fn a_link_over_std_reads_and_writes(rt: HostRuntime) -> Result<(), Fail> {
+    let alloc = rt.alloc();
+    let mut link = StdLink::new(b"ab".as_slice(), Vec::new(alloc));
+    check_gives(&rt, &mut link, Some(b"ab".as_slice()));
+    check_gives(&rt, &mut link, Some(b"".as_slice()));
+    assert_eq!(rt; Link::write(&mut link, b"xyz"), Wrote::Taken(3));
+    Ok(())
+}
+
+#[test]
+fn the_clock_shows_a_moment_of_this_century(rt: HostRuntime) {
+    let mut clock = SystemClock::new(&rt);
+    assert!(rt; clock.now() > 1_700_000_000);
+}
+
+#[test]
+fn two_draws_of_the_system_differ(rt: HostRuntime) {
+    let mut random = OsWords::new(&rt);
+    let first = random.draw().ok();
+    assert!(rt; first.is_some());
+    assert!(rt; first != random.draw().ok());
+}
