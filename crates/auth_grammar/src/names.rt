@@ -13,11 +13,10 @@ pub fn same_name(a: &[u8], b: &[u8]) -> bool
 }
 
 /// The value of the first parameter of that name, or None where there is none.
-pub fn value_of<'a>(params: &'a ParamList, name: &[u8]) -> Option<&'a Octets>
+pub fn value_of<'a>(params: &'a [Param], name: &[u8]) -> Option<&'a Octets>
     ensures { option_copied result ≡ value_of name.now params.now }
 {
     let found = params
-        .as_slice()
         .iter()
         .find(|param| same_name(param.name.bytes(), name));
     found.map(|param| &param.value)
