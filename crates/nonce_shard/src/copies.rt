@@ -1,0 +1,130 @@
+//! Copies that take no memory, where `clone` could be refused it.
+ghost use Rattle.std.specs.Prelude.{◌≡◌};
+ghost use Rattle.std.specs.Option.{option_copied};
+
+use crate::calls::{Call, Exchange, Prime, Reply, What};
+use arrayvec::ArrayVec;
+
+pub fn copy_prime(prime: &Prime) -> Prime
+    ensures { result ≡ prime.now }
+{
+    let mut copy = Prime::new();
+    let _ = copy.try_extend_from_slice(prime.as_slice());
+    copy
+}
+
+pub fn copy_found_prime(prime: Option<&Prime>) -> Option<Prime>
+    ensures { result ≡ option_copied prime.entry }
+{
+    match prime {
+        Some(prime) => Some(copy_prime(prime)),
+        None => None,
+    }
+}
+
+fn copy_optional_prime(prime: &Option<Prime>) -> Option<Prime>
+    ensures { result ≡ prime.now }
+{
+    match prime {
+        Some(prime) => Some(copy_prime(prime)),
+        None => None,
+    }
+}
+
+pub fn copy_exchange(exchange: &Exchange) -> Exchange
+    ensures { result ≡ exchange.now }
+{
+    let mut bare = ArrayVec::new();
+    let _ = bare.try_extend_from_slice(exchange.bare.as_slice());
+    Exchange {
+        flag: exchange.flag,
+        bare,
+    }
+}
+
+pub fn copy_call(call: &Call) -> Call
+    ensures { result ≡ call.now }
+{
+    Call {
+        moment: call.moment,
+        what: copy_what(&call.what),
+    }
+}
+
+fn copy_what(what: &What) -> What
+    ensures { result ≡ what.now }
+{
+    match what {
+        What::Issue {
+            kind,
+            space,
+            random,
+        } => What::Issue {
+            kind: *kind,
+            space: *space,
+            random: *random,
+        },
+        What::Peek { nonce, space } => What::Peek {
+            nonce: *nonce,
+            space: *space,
+        },
+        What::Use {
+            nonce,
+            kind,
+            space,
+            count,
+            prime,
+        } => What::Use {
+            nonce: *nonce,
+            kind: *kind,
+            space: *space,
+            count: *count,
+            prime: copy_optional_prime(prime),
+        },
+        What::Open {
+            space,
+            random,
+            exchange,
+        } => What::Open {
+            space: *space,
+            random: *random,
+            exchange: copy_exchange(exchange),
+        },
+        What::Take { sid, space } => What::Take {
+            sid: *sid,
+            space: *space,
+        },
+        What::Keep { sid, space } => What::Keep {
+            sid: *sid,
+            space: *space,
+        },
+        What::Recall { sid, space } => What::Recall {
+            sid: *sid,
+            space: *space,
+        },
+    }
+}
+
+pub fn copy_reply(reply: &Reply) -> Reply
+    ensures { result ≡ reply.now }
+{
+    match reply {
+        Reply::Issued { serial } => Reply::Issued { serial: *serial },
+        Reply::Prime { prime } => Reply::Prime {
+            prime: copy_optional_prime(prime),
+        },
+        Reply::Fresh => Reply::Fresh,
+        Reply::Gone => Reply::Gone,
+        Reply::Behind { high } => Reply::Behind { high: *high },
+        Reply::Repeated => Reply::Repeated,
+        Reply::OtherSession => Reply::OtherSession,
+        Reply::Opened { serial } => Reply::Opened { serial: *serial },
+        Reply::Taken { exchange } => Reply::Taken {
+            exchange: copy_exchange(exchange),
+        },
+        Reply::Kept => Reply::Kept,
+        Reply::Session { exchange } => Reply::Session {
+            exchange: copy_exchange(exchange),
+        },
+    }
+}

@@ -1,0 +1,18 @@
+//! Why a table does not do what it is asked.
+use std::alloc::AllocError;
+
+/// There was no memory for the table.
+#[derive(Clone, Copy, Debug, PartialEq, Eq)]
+pub struct OutOfMemory;
+
+impl From<AllocError> for OutOfMemory {
+    fn from(_error: AllocError) -> OutOfMemory {
+        OutOfMemory
+    }
+}
+
+/// The shard has had as many calls as it can take. `calls` is that number.
+#[derive(Clone, Copy, Debug, PartialEq, Eq)]
+pub struct Worn {
+    pub calls: u64,
+}
