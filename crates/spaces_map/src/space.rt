@@ -1,0 +1,43 @@
+//! One protection space.
+use auth_grammar::{Octets, Sequence};
+use auth_hash::Algorithm;
+
+/// Whether a space asks for credentials.
+#[derive(Debug, Drop, Clone, Copy, PartialEq, Eq)]
+pub enum Mode {
+    /// It asks for none.
+    Open,
+    /// It offers to take them (RFC 8053 section 3).
+    Optional,
+    /// It admits nobody without them.
+    Required,
+}
+
+/// A way to authenticate.
+#[derive(Debug, Drop, Clone, Copy, PartialEq, Eq)]
+pub enum OfferKind {
+    /// Digest by this hash, where `session` by its session variant (RFC 7616 section 3.4.2).
+    Digest { alg: Algorithm, session: bool },
+}
+
+/// An offer of a space. `auth_int` says that a response over the body is offered too, `userhash` that names
+/// may come hashed (RFC 7616 section 3.4.4).
+#[derive(Debug, Drop, Clone, Copy, PartialEq, Eq)]
+pub struct Offer {
+    pub kind: OfferKind,
+    pub auth_int: bool,
+    pub userhash: bool,
+}
+
+pub type OfferList = Sequence<Offer>;
+
+/// A protection space: the paths that its prefix holds by whole segments. Spaces with one realm have one
+/// number, the place from 0 of the first line with that realm.
+#[derive(Drop)]
+pub struct Space {
+    pub prefix: Octets,
+    pub mode: Mode,
+    pub offers: OfferList,
+    pub realm: Octets,
+    pub number: u32,
+}
