@@ -17,7 +17,7 @@ use Rattle.http_header.proofs.TokenLemmas.{IsFieldName-from_test}
 use Rattle.http_header.specs.HeaderMap.{Entries, append, append_all, pairs}
 use Rattle.httparse.specs.declared.spans.HeaderSpan.{HeaderSpan}
 use Rattle.httparse.specs.Spans.{header_bytes}
-use Rattle.http_wire.specs.Texts.{is_number}
+use Rattle.http_wire.specs.Values.{is_number}
 use Rattle.http_wire.specs.Fields.{Pairs, are_field_names, lowered, fields_of}
 
 -- a name passes the test

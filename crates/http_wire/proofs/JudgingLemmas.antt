@@ -9,7 +9,7 @@ use Rattle.httparse.specs.Spans.{RequestOverflows, name_and_value}
 use Rattle.httparse.proofs.GrammarLemmas.{request_unique, print_request-append}
 use Rattle.http_wire.specs.declared.request_head.Judged.TheVariants.{Faulty}
 use Rattle.http_wire.specs.HeadPlace.{empty_line}
-use Rattle.http_wire.specs.Texts.{Line, lines_of, before_lines, line_feeds}
+use Rattle.http_wire.specs.Lines.{Line, lines_of, before_lines, line_feeds}
 use Rattle.http_wire.specs.RequestHead.{read_head}
 use Rattle.http_wire.specs.RequestChecks.{judge, judge_head, judge_named}
 use Rattle.http_wire.specs.Fields.{fields_of, Pairs}

@@ -2,7 +2,7 @@
 use Rattle.std.proofs.Common.{◌≡◌, [], ◌++◌, ◌<◌, ◌≤◌, ◌+◌, ◌-◌, ℕ, List, length, take, drop, Option, Some, None, Bool, true, false, cond, sym, refl, ap, ◌∙◌, subst, append_assoc, length-append, length-drop, zero-add, min, arith}
 use Rattle.std.specs.Prelude.{nat_lt, slice_range, ◌&&◌, not}
 use Rattle.std.proofs.lemmas.Bool.{lt-ltb, le-ltb}
-use Rattle.std.proofs.lemmas.List.{take-append-drop, length-take}
+use Rattle.std.proofs.lemmas.List.{take-append-drop, length-take, drop-drop}
 use Rattle.http_wire.specs.declared.request_head.SoundHead.{SoundHead}
 use Rattle.http_wire.specs.declared.request_head.Judged.{Judged}
 use Rattle.http_wire.specs.declared.request_head.Judged.TheVariants.{Sound, Faulty}
@@ -12,12 +12,12 @@ use Rattle.http_wire.specs.declared.phase.Phase.{Phase}
 use Rattle.http_wire.specs.declared.phase.Phase.TheVariants.{Searching, Body, Stopped}
 use Rattle.http_wire.specs.HeadPlace.{head_place, place_after, blank_len}
 use Rattle.http_wire.specs.RequestChecks.{judge}
-use Rattle.http_wire.specs.Requests.{Front, Unfinished, Whole, Wrong, front, front_at, front_behind, request_of, is_due}
+use Rattle.http_wire.specs.Requests.{Front, Unfinished, Whole, Wrong, front, front_at, front_behind, with_body, is_due}
 use Rattle.http_wire.specs.declared.request.Request.{Request}
 use Rattle.http_wire.specs.declared.request.Next.TheVariants.{Message, Continue, NeedMore}
 use Rattle.http_wire.specs.RequestFeed.{Held, Gives}
 use Rattle.http_wire.specs.Search.{Tracks, place_from, StandsAt}
-use Rattle.http_wire.specs.RequestPhase.{IsPhase, IsSettled, is_stopped}
+use Rattle.http_wire.specs.RequestPhase.{IsPhase, IsSettled}
 use Rattle.http_wire.proofs.HeadPlaceLemmas.{place_is, head_place_more, no_blank_place}
 use Rattle.http_wire.proofs.RequestLaws.{window, take_split, in_window, slice_more, wrong_more}
 
@@ -70,7 +70,7 @@ front_long bytes h l = ap (λ (o : Option (ℕ × ℕ)). front_at o bytes) h ∙
 -- ---- behind a head without fault
 
 unfoldable cond_behind : Bool → SoundHead → List ℕ → Front
-cond_behind t head rest = cond t (Unfinished head.expects) (Whole head.expects (request_of head (take head.body_len rest)) (drop head.body_len rest))
+cond_behind t head rest = cond t (Unfinished head.expects) (Whole head.expects (with_body head.request (take head.body_len rest)) (drop head.body_len rest))
 
 due_if : (t : Bool) (head : SoundHead) (rest : List ℕ) → is_due (cond_behind t head rest) ≡ head.expects
 unfolding cond_behind
@@ -89,12 +89,24 @@ module _ (bytes : List ℕ) (head : SoundHead) (start end : ℕ) (body : IsSettl
   unfolding cond_behind
   body_short l = front_is ∙ ap (λ (t : Bool). cond_behind t head (drop end bytes)) (lt-ltb (length (drop end bytes)) head.body_len l)
 
-  pub body_whole : head.body_len ≤ length (drop end bytes) → front bytes ≡ Whole head.expects (request_of head (take head.body_len (drop end bytes))) (drop head.body_len (drop end bytes))
+  pub body_whole : head.body_len ≤ length (drop end bytes) → front bytes ≡ Whole head.expects (with_body head.request (take head.body_len (drop end bytes))) (drop head.body_len (drop end bytes))
   unfolding cond_behind
   body_whole l = front_is ∙ ap (λ (t : Bool). cond_behind t head (drop end bytes)) (le-ltb (length (drop end bytes)) head.body_len l)
 
   pub body_within : end ≤ length bytes
   body_within = in_window bytes (start, end) (place_is (window bytes) (start, end) body.0)
+
+  -- what is taken with a whole body, and what follows it
+  pub body_taken : (text rest : List ℕ) (count : ℕ) → text ≡ take head.body_len (drop end bytes) → count ≡ end + length text → rest ≡ drop count bytes → head.body_len ≤ length (drop end bytes) →
+      (front bytes ≡ Whole head.expects (with_body head.request text) rest) × (count ≡ length bytes - length rest) × (length rest + count ≡ length bytes)
+  body_taken text rest count is sum after l =
+      let size : length text ≡ min head.body_len (length (drop end bytes)) = ap length is ∙ length-take head.body_len (drop end bytes) in
+      let room : length (drop end bytes) ≡ length bytes - end = length-drop end bytes in
+      let left : length rest ≡ length bytes - count = ap length after ∙ length-drop count bytes in
+      let within : end ≤ length bytes = body_within in
+      let all : end + head.body_len ≡ count = omega arith in
+      let behind : drop head.body_len (drop end bytes) ≡ rest = drop-drop head.body_len end bytes ∙ ap (λ (k : ℕ). drop k bytes) all ∙ sym after in
+      (body_whole l ∙ (λ i. Whole head.expects (with_body head.request (sym is i)) (behind i)), omega arith, omega arith)
 
 pub tracks_start : (bytes : List ℕ) → Tracks bytes (Blank 0)
 unfolding head_place
@@ -107,13 +119,13 @@ owed true true h k = refl
 owed true false h k = cc
 owed false t h k = cc
 
-unstopped : (old new : Bool) → (old ≡ true → new ≡ true) → new ≡ false → old ≡ false
-unstopped true new f e = sym (f refl) ∙ e
-unstopped false new f e = refl
+-- a feed that holds these bytes, and didn't stop
+module _ (bytes : List ℕ) (at : ℕ) (told was : Bool) (old : Held) (view : ◌≡◌ {A = Held} (record { rest = bytes; at = at; told = told; stopped = was }) old) (goes : old.stopped ≡ false) where
+  pub body_here : (head : SoundHead) (start end : ℕ) → IsPhase old.rest (Body head start end) → IsPhase bytes (Body head start end)
+  body_here head start end body = subst (λ (rest : List ℕ). IsPhase rest (Body head start end)) (sym (ap (λ (h : Held). h.rest) view)) body
 
-module _ (bytes : List ℕ) (at : ℕ) (told was : Bool) (old : Held) (view : ◌≡◌ {A = Held} (record { rest = bytes; at = at; told = told; stopped = was }) old) (kept : was ≡ true → false ≡ true) where
   free : was ≡ false
-  free = unstopped was false kept refl
+  free = ap (λ (h : Held). h.stopped) view ∙ goes
 
   pub gives_nothing : ◌≡◌ {A = Held} (record { rest = bytes; at = at; told = told; stopped = false }) old
   gives_nothing = (λ i. record { rest = bytes; at = at; told = told; stopped = sym free i }) ∙ view
@@ -130,22 +142,6 @@ module _ (bytes : List ℕ) (at : ℕ) (told was : Bool) (old : Held) (view : �
       Gives old (record { rest = rest; at = at + count; told = false; stopped = false }) (Message request)
   gives_message expects request rest count is none e = subst (λ (o : Held). Gives o (record { rest = rest; at = at + count; told = false; stopped = false }) (Message request)) view
       (expects, rest, is, owed expects told none, λ i. record { rest = rest; at = at + e i; told = false; stopped = false })
-
--- the phase that a look left, taken apart
-pub settled_is : (bytes slice : List ℕ) (phase given body : Phase) → IsSettled slice phase → slice ≡ bytes → given ≡ phase → given ≡ body → IsSettled bytes body
-settled_is bytes slice phase given body s e g b = subst (λ (p : Phase). IsSettled bytes p) (sym g ∙ b) (subst (λ (x : List ℕ). IsSettled x phase) e s)
-
-pub kept_is : (old phase given body : Phase) → (is_stopped old ≡ true → is_stopped phase ≡ true) → given ≡ phase → given ≡ body → is_stopped body ≡ false → is_stopped old ≡ true → false ≡ true
-kept_is old phase given body k g b f o = sym f ∙ ap is_stopped (sym b ∙ g) ∙ k o
-
-pub drop_twice : (rest mid bytes : List ℕ) (m n : ℕ) → rest ≡ drop m mid → mid ≡ drop n bytes → length rest ≤ length bytes
-drop_twice rest mid bytes m n e f =
-    let a : length rest ≡ length mid - m = ap length e ∙ length-drop m mid in
-    let b : length mid ≡ length bytes - n = ap length f ∙ length-drop n bytes in
-    omega arith
-
-pub moved_on : (at a b all left limit : ℕ) → a ≡ all → b ≡ left → left ≤ all → at + all < limit → at + (a - b) + left < limit
-moved_on at a b all left limit e f l h = omega arith
 
 -- ---- after a look at the first bytes w
 

@@ -12,7 +12,8 @@ use Rattle.std.proofs.lemmas.Slice.Eq.{bytes_eq-Decides}
 use Rattle.std.proofs.lemmas.Str.{IsUtf8-from_is_utf8, is_utf8-from_IsUtf8}
 use Rattle.httparse.specs.Grammar.{is_token_byte, is_uri_byte, is_value_byte, AllPass, IsToken, is_token, LineEnd, crlf, lf, print_end, print_blank, print_version, Field, IsField, print_field, print_section, RequestHead, IsRequestHead, print_request, ReadsRequest}
 use Rattle.httparse.proofs.GrammarLemmas.{print_request-append, cons-append}
-use Rattle.http_wire.specs.Texts.{Line, with_byte, before_lines, lines_of, with_front, cut_at, is_empty, ◌>>=◌}
+use Rattle.http_wire.specs.Lines.{Line, with_byte, before_lines, lines_of, with_front, cut_at, ◌>>=◌}
+use Rattle.http_wire.specs.Values.{is_empty}
 use Rattle.http_wire.specs.RequestHead.{minor_of, Start, is_target, start_of, field_of, section_of, head_of, read_head}
 
 -- the text of lines

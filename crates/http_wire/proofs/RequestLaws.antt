@@ -9,7 +9,7 @@ use Rattle.http_wire.specs.declared.request_head.Judged.{Judged}
 use Rattle.http_wire.specs.declared.request_head.Judged.TheVariants.{Sound, Faulty}
 use Rattle.http_wire.specs.RequestChecks.{judge}
 use Rattle.http_wire.specs.HeadPlace.{head_place}
-use Rattle.http_wire.specs.Requests.{Front, Unfinished, Whole, Wrong, request_of, front_behind, front_at, front, is_due, Cuts}
+use Rattle.http_wire.specs.Requests.{Front, Unfinished, Whole, Wrong, with_body, front_behind, front_at, front, is_due, Cuts}
 use Rattle.http_wire.proofs.HeadPlaceLemmas.{IsPlace, place_is, head_place_more}
 
 -- what stood at the front, and what stands there when more bytes came
@@ -29,9 +29,9 @@ take_split (suc n) (x ∷ xs) ys = let more = take_split n xs ys in (more.0, ap 
 
 -- behind a head without fault
 behind_if : (t t' : Bool) (head : SoundHead) (bytes more : List ℕ) (request : Request) (rest : List ℕ) →
-    (t ≡ false → t' ≡ false) → (t ≡ false → (request_of head (take head.body_len (bytes ++ more)) ≡ request_of head (take head.body_len bytes)) × (drop head.body_len (bytes ++ more) ≡ drop head.body_len bytes ++ more)) →
-    Later more (cond t (Unfinished head.expects) (Whole head.expects (request_of head (take head.body_len bytes)) (drop head.body_len bytes)))
-    (cond t' (Unfinished head.expects) (Whole head.expects (request_of head (take head.body_len (bytes ++ more))) (drop head.body_len (bytes ++ more))))
+    (t ≡ false → t' ≡ false) → (t ≡ false → (with_body head.request (take head.body_len (bytes ++ more)) ≡ with_body head.request (take head.body_len bytes)) × (drop head.body_len (bytes ++ more) ≡ drop head.body_len bytes ++ more)) →
+    Later more (cond t (Unfinished head.expects) (Whole head.expects (with_body head.request (take head.body_len bytes)) (drop head.body_len bytes)))
+    (cond t' (Unfinished head.expects) (Whole head.expects (with_body head.request (take head.body_len (bytes ++ more))) (drop head.body_len (bytes ++ more))))
 behind_if true true head bytes more request rest f g = λ e. e
 behind_if true false head bytes more request rest f g = λ e. e
 behind_if false true head bytes more request rest f g = cc (f refl)
@@ -42,10 +42,10 @@ pub behind_more : (judged : Judged) (bytes more : List ℕ) → Later more (fron
 behind_more (Faulty status) bytes more = refl
 behind_more (Sound head) bytes more =
     let size : length (bytes ++ more) ≡ length bytes + length more = length-append bytes more in
-    behind_if (nat_lt (length bytes) head.body_len) (nat_lt (length (bytes ++ more)) head.body_len) head bytes more (request_of head []) []
+    behind_if (nat_lt (length bytes) head.body_len) (nat_lt (length (bytes ++ more)) head.body_len) head bytes more (with_body head.request []) []
     (λ e. le-ltb (length (bytes ++ more)) head.body_len (let le : head.body_len ≤ length bytes = ltb-false (length bytes) head.body_len e in omega arith))
     (λ e. let le : head.body_len ≤ length bytes = ltb-false (length bytes) head.body_len e in
-    (ap (λ (l : List ℕ). request_of head l) (take-append-le head.body_len bytes more le), drop-append-le head.body_len bytes more le))
+    (ap (λ (l : List ℕ). with_body head.request l) (take-append-le head.body_len bytes more le), drop-append-le head.body_len bytes more le))
 
 pub place_case : (o : Option (ℕ × ℕ)) → (o ≡ None) ⊎ ((place : ℕ × ℕ) × (o ≡ Some place))
 place_case None = inl refl
@@ -121,7 +121,7 @@ pub due_more : (bytes more : List ℕ) → is_due (front bytes) ≡ true → is_
 due_more bytes more h = due_later more (front bytes) (front (bytes ++ more)) (front_more bytes more) h
 
 whole_if : (t : Bool) (head : SoundHead) (bytes : List ℕ) (due : Bool) (request : Request) (rest : List ℕ) →
-    cond t (Unfinished head.expects) (Whole head.expects (request_of head (take head.body_len bytes)) (drop head.body_len bytes)) ≡ Whole due request rest →
+    cond t (Unfinished head.expects) (Whole head.expects (with_body head.request (take head.body_len bytes)) (drop head.body_len bytes)) ≡ Whole due request rest →
     rest ≡ drop head.body_len bytes
 whole_if true head bytes due request rest h = cc
 whole_if false head bytes due request rest h = cc

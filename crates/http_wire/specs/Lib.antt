@@ -1,4 +1,5 @@
-pub mod Texts
+pub mod Lines
+pub mod Values
 pub mod HeadPlace
 pub mod RequestHead
 pub mod Fields

@@ -1,26 +1,16 @@
 -- What a request's head asks for, and which fault it has.
 use Rattle.std.specs.Prelude.{ℕ, Bool, true, false, ◌&&◌, ◌||◌, not, List, [], ◌∷◌, if◌then◌else◌, ◌==◌, nat_lt, nat_le, Option, Some, None, map, codes}
 use Rattle.std.specs.List.{list_all}
-use Rattle.std.specs.Str.Parse.{digits_value}
 use Rattle.httparse.specs.Grammar.{RequestHead}
 use Rattle.httparse.specs.Spans.{name_and_value}
 use Rattle.http_wire.specs.declared.request_head.SoundHead.{SoundHead}
 use Rattle.http_wire.specs.declared.request_head.Judged.{Judged}
 use Rattle.http_wire.specs.declared.request_head.Judged.TheVariants.{Sound, Faulty}
-use Rattle.http_wire.specs.Texts.{is_empty, is_number, same_name, has_token, line_feeds}
+use Rattle.http_wire.specs.Values.{is_empty, are_lengths, first_number, has_token}
+use Rattle.auth_grammar.specs.Names.{same_name}
+use Rattle.http_wire.specs.Lines.{line_feeds}
 use Rattle.http_wire.specs.RequestHead.{read_head}
 use Rattle.http_wire.specs.Fields.{Pairs, fields_of, values_of}
-
--- the Content-Length, 0 where there is none
-abbrev pub first_number : List (List ℕ) → ℕ
-first_number [] = 0
-first_number (value ∷ values) = digits_value 10 value
-
--- at most one, with one or more digits
-abbrev pub are_lengths : List (List ℕ) → Bool
-are_lengths [] = true
-are_lengths (value ∷ []) = is_number value
-are_lengths (value ∷ next ∷ values) = false
 
 -- more than one Host, or none with HTTP/1.1
 abbrev pub is_wrong_host : ℕ → List (List ℕ) → Bool
@@ -55,15 +45,18 @@ fault_of minor n =
     else if not (list_all (λ value. same_name value (codes "100-continue")) n.expects) then Some 417
     else None
 
--- what a head asks for
+-- a head without fault
 unfoldable pub sound_head : List ℕ → List ℕ → ℕ → Pairs → Named → SoundHead
 sound_head method target minor fields n = record {
-  method = method;
-  target = target;
-  minor = minor;
-  fields = fields;
+  request = record {
+    method = method;
+    target = target;
+    minor = minor;
+    fields = fields;
+    body = [];
+    closes = minor == 0 || has_token n.connections (codes "close");
+  };
   body_len = first_number n.lengths;
-  closes = minor == 0 || has_token n.connections (codes "close");
   expects = (minor == 1 && not (is_empty n.expects)) && nat_lt 0 (first_number n.lengths);
 }
 
@@ -83,6 +76,6 @@ abbrev pub judge_head : Option RequestHead → Judged
 judge_head None = Faulty 400
 judge_head (Some h) = judge_named h (fields_of (map name_and_value h.fields))
 
--- the text of a head, checked in head
+-- the text of a head, checked in order
 unfoldable pub judge : List ℕ → Judged
 judge text = if nat_lt 66 (line_feeds text) then Faulty 431 else judge_head (read_head text)

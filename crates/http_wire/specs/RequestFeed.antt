@@ -25,4 +25,4 @@ Gives old new (Message request) =
 Gives old new Continue = (is_due (front old.rest) ≡ true) × (old.told ≡ false) × (new ≡ record old { told = true })
 Gives old new NeedMore = (due : Bool) × (front old.rest ≡ Unfinished due) × (due ≡ true → old.told ≡ true) × (new ≡ old)
 Gives old new (Bad status at) = (front old.rest ≡ Wrong status) × (at ≡ old.at) × (new ≡ record old { stopped = true })
-Gives old new OutOfMemory = new ≡ old
+Gives old new OutOfMemory = (old.stopped ≡ false) × (new ≡ old)

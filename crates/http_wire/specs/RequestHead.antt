@@ -3,7 +3,8 @@ use Rattle.std.specs.Prelude.{ℕ, Bool, ◌&&◌, List, [], ◌∷◌, length, 
 use Rattle.std.specs.List.{list_all}
 use Rattle.std.specs.Str.{is_utf8}
 use Rattle.httparse.specs.Grammar.{is_token, is_uri_byte, is_value_byte, LineEnd, Field, RequestHead, print_version}
-use Rattle.http_wire.specs.Texts.{Line, lines_of, cut_at, is_empty, ◌>>=◌}
+use Rattle.http_wire.specs.Lines.{Line, lines_of, cut_at, ◌>>=◌}
+use Rattle.http_wire.specs.Values.{is_empty}
 
 -- HTTP/1.0 or HTTP/1.1
 abbrev pub minor_of : List ℕ → Option ℕ

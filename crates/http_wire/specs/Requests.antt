@@ -1,7 +1,6 @@
 -- What stands at the front of a stream of requests.
 use Rattle.std.specs.Prelude.{◌≡◌, ⊤, ℕ, Bool, false, List, [], ◌∷◌, length, take, drop, slice_range, if◌then◌else◌, nat_lt, Option, Some, None}
 use Rattle.http_wire.specs.declared.request.Request.{Request}
-use Rattle.http_wire.specs.declared.request_head.SoundHead.{SoundHead}
 use Rattle.http_wire.specs.declared.request_head.Judged.{Judged}
 use Rattle.http_wire.specs.declared.request_head.Judged.TheVariants.{Sound, Faulty}
 use Rattle.http_wire.specs.RequestChecks.{judge}
@@ -15,15 +14,16 @@ pub data Front : Type 0 where
   Whole : Bool → Request → List ℕ → Front
   Wrong : ℕ → Front
 
-abbrev pub request_of : SoundHead → List ℕ → Request
-request_of head body = record { method = head.method; target = head.target; minor = head.minor; fields = head.fields; body = body; closes = head.closes }
+-- the request with that body
+abbrev pub with_body : Request → List ℕ → Request
+with_body request body = record request { body = body }
 
 -- behind a head without fault
 abbrev pub front_behind : Judged → List ℕ → Front
 front_behind (Faulty status) bytes = Wrong status
 front_behind (Sound head) bytes =
     if nat_lt (length bytes) head.body_len then Unfinished head.expects
-    else Whole head.expects (request_of head (take head.body_len bytes)) (drop head.body_len bytes)
+    else Whole head.expects (with_body head.request (take head.body_len bytes)) (drop head.body_len bytes)
 
 abbrev pub front_at : Option (ℕ × ℕ) → List ℕ → Front
 front_at None bytes = if nat_lt (length bytes) 16384 then Unfinished false else Wrong 431

@@ -1,36 +1,68 @@
-//! The fields of a message.
+//! The fields of a message (RFC 9110 section 5).
+ghost use Rattle.std.specs.Prelude.{◌≡◌, ◌≤◌, All, length, map, IfOk};
+ghost use Rattle.std.specs.List.{list_all};
+ghost use Rattle.auth_grammar.specs.Names.{same_name};
+ghost use Rattle.httparse.specs.Spans.{IsHeaderWithin, header_bytes};
 ghost use Rattle.http_header.specs.Token.{lowercase};
-ghost use Rattle.http_wire.specs.Fields.{pairs_size, values_of};
-ghost use Rattle.std.specs.Prelude.{map, ◌≡◌, ◌≤◌, ◌∷◌, ◌++◌, ℕ, [], List, length, IfOk, OnOk, OnErr};
+ghost use Rattle.http_wire.specs.Fields.{pairs_size, fields_of, values_of};
+ghost use Rattle.http_wire.specs.Values.{AreValues, has_token};
 
-use crate::checks::values;
 use crate::pair::{Pair, PairList};
-use auth_grammar::{Octets, OctetsList, OutOfMemory, Sequence};
-use http_header::HeaderMap;
+use crate::values::{Values, has_part};
+use auth_grammar::{Octets, OctetsList, OutOfMemory, Sequence, same_name};
+use http_header::{HeaderMap, HeaderName, HeaderNameError};
+use httparse::spans::HeaderSpan;
 use std::alloc::Global;
 use std::marker::Model;
 
-/// The fields of a message, seen as the pairs of name and value in the map's order.
+/// The fields of a message. Contracts see the list of pairs of a name in lower case and a value, in which all lines of a
+/// name stand together, where the first of them stood.
+///
+/// The names and values, with one byte more for each pair, are together at most 16,384 bytes.
 #[derive(Drop)]
 pub struct Fields {
-    pub(crate) map: HeaderMap<Octets>,
+    map: HeaderMap<Octets>,
 }
 
 impl Model for Fields {
-    ghost use Rattle.std.specs.Prelude.{List, ℕ};
+    ghost use Rattle.std.specs.Prelude.{List, ℕ, ◌≤◌};
     ghost use Rattle.http_header.specs.HeaderMap.{pairs};
+    ghost use Rattle.http_wire.specs.Fields.{pairs_size};
 
     ghost Value = { List (List ℕ × List ℕ) };
 
     ghost view = { λ f. pairs f.map };
 
-    ghost use Rattle.std.specs.Prelude.{◌≤◌};
-    ghost use Rattle.http_wire.specs.Fields.{pairs_size};
-
     ghost invariant = { λ f. pairs_size (pairs f.map) ≤ 16384 };
 }
 
 impl Fields {
+    // the fields at the spans of a head, or None where a name is too long for a field
+    pub(crate) fn read(
+        alloc: Global,
+        text: &[u8],
+        headers: &[HeaderSpan],
+    ) -> Result<Option<Fields>, OutOfMemory>
+        requires within { All (IsHeaderWithin (length text.now)) headers.now }
+        requires short { pairs_size (map (header_bytes text.now) headers.now) ≤ 16384 }
+        ensures { IfOk result (λ fields. fields ≡ fields_of (map (header_bytes text.now) headers.now)) }
+    {
+        let mut map = HeaderMap::<Octets>::empty(alloc);
+        for header in headers {
+            let name = match HeaderName::from_bytes(alloc, header.name.of(text)) {
+                Ok(name) => name,
+                Err(HeaderNameError::Invalid) => return Ok(None),
+                Err(HeaderNameError::OutOfMemory) => return Err(OutOfMemory),
+            };
+            let value = Octets::of(alloc, header.value.of(text))?;
+            // The map is full only at 32,768 names.
+            let Ok(_) = map.append(name, value) else {
+                return Err(OutOfMemory);
+            };
+        }
+        Ok(Some(Fields { map }))
+    }
+
     /// How many pairs there are.
     pub fn len(&self) -> usize
         ensures len { result ≡ length self.now }
@@ -46,7 +78,13 @@ impl Fields {
     {
         let mut lower = Vec::from_slice(alloc, name)?;
         lower.as_mut_slice().make_ascii_lowercase();
-        values(alloc, self, lower.as_slice())
+        let mut lines = Sequence::new(alloc);
+        for (written, value) in self.map.iter() {
+            if written.as_bytes() == lower.as_slice() {
+                lines.push(value.copy()?)?;
+            }
+        }
+        Ok(lines)
     }
 
     /// All pairs.
@@ -62,5 +100,45 @@ impl Fields {
             })?;
         }
         Ok(pairs)
+    }
+
+    // the values of a name, which is given in lower case
+    pub(crate) fn values(&self, name: &[u8]) -> Values<'_>
+        ensures { AreValues (values_of self.now name.now) result }
+    {
+        let mut found = Values::Absent;
+        for (written, value) in self.map.iter() {
+            if written.as_bytes() == name {
+                match found {
+                    Values::Absent => found = Values::One(value.bytes()),
+                    _ => return Values::Several,
+                }
+            }
+        }
+        found
+    }
+
+    // whether each value of a name is that text, without regard to case
+    pub(crate) fn all_are(&self, name: &[u8], text: &[u8]) -> bool
+        ensures { result ≡ list_all (λ value. same_name value text.now) (values_of self.now name.now) }
+    {
+        for (written, value) in self.map.iter() {
+            if written.as_bytes() == name && !same_name(value.bytes(), text) {
+                return false;
+            }
+        }
+        true
+    }
+
+    // whether a value of a name has that token between its commas
+    pub(crate) fn has_token(&self, name: &[u8], token: &[u8]) -> bool
+        ensures { result ≡ has_token (values_of self.now name.now) token.now }
+    {
+        for (written, value) in self.map.iter() {
+            if written.as_bytes() == name && has_part(value.bytes(), token) {
+                return true;
+            }
+        }
+        false
     }
 }

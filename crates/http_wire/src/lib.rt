@@ -3,15 +3,17 @@
 #![tactic(auto)]
 
 mod answer;
-mod checks;
 mod fields;
 mod pair;
 mod phase;
 mod request;
+mod request_checks;
 mod request_feed;
 mod request_head;
 mod search;
 mod text;
+mod unread;
+mod values;
 
 pub use answer::{Answer, continue_text, status_body, write_answer};
 pub use fields::Fields;

@@ -5,12 +5,13 @@ ghost use Rattle.http_wire.specs.RequestPhase.{IsPhase, IsSettled, is_stopped};
 ghost use Rattle.http_wire.specs.RequestFeed.{Gives, pushed, Held};
 ghost use Rattle.std.specs.List.{concat};
 ghost use Rattle.http_wire.specs.RequestRuns.{Takes, IsAllOf};
-ghost use Rattle.http_wire.specs.Requests.{front, Unfinished, begun_at};
+ghost use Rattle.http_wire.specs.Requests.{with_body, begun_at};
 
 use crate::phase::Phase;
 use crate::request::{Next, Request};
 use crate::request_head::{Judged, SoundHead, judge_text};
 use crate::search::{Place, Search, find_head, line_here};
+use crate::unread::Unread;
 use auth_grammar::{Octets, OutOfMemory};
 use std::alloc::Global;
 use std::marker::Model;
@@ -19,11 +20,12 @@ use std::mem;
 /// The most bytes of a head, with the empty lines before it.
 pub const HEAD_LIMIT: usize = 16_384;
 
-/// A stream of requests, seen as the bytes after the messages that it gave.
+/// Requests that come in pieces. Contracts see what it holds: the bytes behind the messages that it gave, their place,
+/// whether a `Continue` was given for them, and whether it stopped at a bad message.
 #[derive(Drop)]
 pub struct RequestFeed {
     alloc: Global,
-    bytes: Vec<u8>,
+    rest: Unread,
     at: u64,
     told: bool,
     phase: Phase,
@@ -37,9 +39,9 @@ impl Model for RequestFeed {
 
     ghost use Rattle.http_wire.specs.RequestPhase.{is_stopped, IsPhase};
 
-    ghost view = { λ f. record { rest = f.bytes.items; at = f.at; told = f.told; stopped = is_stopped f.phase } };
+    ghost view = { λ f. record { rest = f.rest; at = f.at; told = f.told; stopped = is_stopped f.phase } };
 
-    ghost invariant = { λ f. IsPhase f.bytes.items f.phase × (f.at + length f.bytes.items < 2 ^ 63) };
+    ghost invariant = { λ f. IsPhase f.rest f.phase × (f.at + length f.rest < 2 ^ 63) };
 }
 
 // the bytes in which a head must end
@@ -80,6 +82,7 @@ fn settle(alloc: Global, bytes: &[u8], phase: &mut Phase) -> Result<(), OutOfMem
     ensures ok { OnOk result (IsSettled bytes.now phase.new) }
     ensures kept { is_stopped phase.old ≡ true → is_stopped phase.new ≡ true }
     ensures err { OnErr result (phase.new ≡ phase.old) }
+    ensures err_goes { OnErr result (is_stopped phase.old ≡ false) }
 {
     if let Phase::Searching(place) = phase {
         *phase = look(alloc, bytes, *place)?;
@@ -94,10 +97,10 @@ impl RequestFeed {
     {
         RequestFeed {
             alloc,
-            bytes: Vec::new(alloc),
+            rest: Unread::new(alloc),
             at: 0,
             told: false,
-            phase: Phase::Searching(Place::Blank { start: 0 }),
+            phase: Phase::START,
         }
     }
 
@@ -105,7 +108,7 @@ impl RequestFeed {
     pub fn has_room(&self, more: usize) -> bool
         ensures { IsTrue result ↔ (self.now.at + length self.now.rest + more < 2 ^ 63) }
     {
-        (self.at as u128) + (self.bytes.len() as u128) + (more as u128) < 1 << 63
+        (self.at as u128) + (self.rest.len() as u128) + (more as u128) < 1 << 63
     }
 
     /// Takes the next piece of the stream. Behind a bad message it does nothing.
@@ -117,7 +120,7 @@ impl RequestFeed {
         if matches!(self.phase, Phase::Stopped { .. }) {
             return Ok(());
         }
-        self.bytes.extend_from_slice(piece)?;
+        self.rest.extend(piece)?;
         Ok(())
     }
 
@@ -125,10 +128,10 @@ impl RequestFeed {
     pub fn next(&mut self) -> Next
         ensures { Gives self.old self.new result }
     {
-        let Ok(()) = settle(self.alloc, self.bytes.as_slice(), &mut self.phase) else {
+        let Ok(()) = settle(self.alloc, self.rest.as_slice(), &mut self.phase) else {
             return Next::OutOfMemory;
         };
-        match mem::replace(&mut self.phase, Phase::Searching(Place::Blank { start: 0 })) {
+        match mem::replace(&mut self.phase, Phase::START) {
             Phase::Searching(place) => {
                 self.phase = Phase::Searching(place);
                 Next::NeedMore
@@ -140,34 +143,36 @@ impl RequestFeed {
                     at: self.at,
                 }
             }
-            Phase::Body { head, start, end } => {
-                if owes(head.expects, self.told) {
-                    self.told = true;
-                    self.phase = Phase::Body { head, start, end };
-                    return Next::Continue;
-                }
-                let rest = behind(self.bytes.as_slice(), end);
-                if rest.len() < head.body_len as usize {
-                    self.phase = Phase::Body { head, start, end };
-                    return Next::NeedMore;
-                }
-                let Ok((body, rest)) = parted(self.alloc, rest, head.body_len as usize) else {
-                    self.phase = Phase::Body { head, start, end };
-                    return Next::OutOfMemory;
-                };
-                self.at += (self.bytes.len() - rest.len()) as u64;
-                self.bytes = rest;
-                self.told = false;
-                Next::Message(Request {
-                    method: head.method,
-                    target: head.target,
-                    minor: head.minor,
-                    fields: head.fields,
-                    body,
-                    closes: head.closes,
-                })
-            }
+            Phase::Body { head, start, end } => self.read_body(head, start, end),
         }
+    }
+
+    // what stands at the front, where a head without a fault stands from `start` to `end`
+    fn read_body(&mut self, head: SoundHead, start: usize, end: usize) -> Next
+        requires body { IsPhase self.old.rest (Phase.Body head start end) }
+        requires goes { self.old.stopped ≡ false }
+        ensures { Gives self.old self.new result }
+    {
+        if owes(head.expects, self.told) {
+            self.told = true;
+            self.phase = Phase::Body { head, start, end };
+            return Next::Continue;
+        }
+        let rest = behind(self.rest.as_slice(), end);
+        if rest.len() < head.body_len as usize {
+            self.phase = Phase::Body { head, start, end };
+            return Next::NeedMore;
+        }
+        let Ok(body) = Octets::of(self.alloc, &rest[..head.body_len as usize]) else {
+            self.phase = Phase::Body { head, start, end };
+            return Next::OutOfMemory;
+        };
+        let count = end + body.len();
+        self.rest.take(count);
+        self.at += count as u64;
+        self.told = false;
+        self.phase = Phase::START;
+        Next::Message(with_body(head.request, body))
     }
 
     /// The place of the bytes that weren't given yet, or None where they are whole empty lines alone.
@@ -175,7 +180,7 @@ impl RequestFeed {
     pub fn rest(&self) -> Option<u64>
         ensures { result ≡ (if begun_at self.now.rest then Some self.now.at else None) }
     {
-        if has_begun(self.bytes.as_slice()) {
+        if has_begun(self.rest.as_slice()) {
             Some(self.at)
         } else {
             None
@@ -212,15 +217,10 @@ fn behind(bytes: &[u8], at: usize) -> &[u8]
     &bytes[at..]
 }
 
-// the first bytes, and the others
-fn parted(alloc: Global, bytes: &[u8], len: usize) -> Result<(Octets, Vec<u8>), OutOfMemory>
-    requires { len ≤ length bytes.now }
-    ensures body { IfOk result (λ parts. parts.0 ≡ take len bytes.now) }
-    ensures rest { IfOk result (λ parts. parts.1.items ≡ drop len bytes.now) }
+fn with_body(request: Request, body: Octets) -> Request
+    ensures { result ≡ with_body request body }
 {
-    let first = Octets::of(alloc, &bytes[..len])?;
-    let rest = Vec::from_slice(alloc, &bytes[len..])?;
-    Ok((first, rest))
+    Request { body, ..request }
 }
 
 /// The requests of a stream that comes in these pieces, up to the first bad one.

@@ -1,26 +1,25 @@
 //! The head of a request, checked.
 ghost use Rattle.std.specs.Prelude.{◌≡◌, ◌≤◌, ℕ, length, IfOk, true};
-ghost use Rattle.http_wire.specs.Texts.{line_feeds};
+ghost use Rattle.http_wire.specs.Lines.{line_feeds};
 ghost use Rattle.http_wire.specs.RequestChecks.{judge};
 ghost use Rattle.http_wire.specs.ParsedRequest.{FindsHead};
 ghost use Rattle.http_wire.specs.HeadPlace.{empty_line};
 
-use crate::checks::{check_fields, read_fields};
 use crate::fields::Fields;
+use crate::request::Request;
+use crate::request_checks::check_fields;
 use auth_grammar::{Octets, OutOfMemory};
 use httparse::Status;
 use httparse::spans::{EMPTY_HEADER_SPAN, HeaderSpan, RequestSpans, parse_request};
 use std::alloc::Global;
 
-/// A head without a fault: what stands in it.
+/// A head without a fault, and what it says of the body.
 #[derive(Drop)]
 pub(crate) struct SoundHead {
-    pub method: Octets,
-    pub target: Octets,
-    pub minor: u8,
-    pub fields: Fields,
+    /// The request, without its body.
+    pub request: Request,
     pub body_len: u32,
-    pub closes: bool,
+    /// Whether the client waits for a Continue before it sends the body.
     pub expects: bool,
 }
 
@@ -72,8 +71,8 @@ pub(crate) fn judge_text(alloc: Global, text: &[u8]) -> Result<Judged, OutOfMemo
     };
     let method = Octets::of(alloc, head.method.of(text))?;
     let target = Octets::of(alloc, head.path.of(text))?;
-    match read_fields(alloc, text, &headers[..head.headers])? {
-        Some(fields) => Ok(check_fields(alloc, method, target, head.version, fields)?),
+    match Fields::read(alloc, text, &headers[..head.headers])? {
+        Some(fields) => Ok(check_fields(alloc, method, target, head.version, fields)),
         None => Ok(Judged::Faulty(400)),
     }
 }

@@ -6,5 +6,5 @@ use Rattle.http_wire.proofs.request_feed.RequestFeed.new.Goals as goal
 
 pub invariant_of-result : goal.invariant_of-result
 invariant_of-result c =
-    let P : List ℕ → Type 0 = λ items. Tracks (take 16384 items) (Blank 0) × (0 + length items < 2 ^ 63) in
-    subst P (sym c.new.ensures.items) (tracks_none, omega arith)
+    let P : List ℕ → Type 0 = λ rest. Tracks (take 16384 rest) (Blank 0) × (0 + length rest < 2 ^ 63) in
+    subst P (sym c.new.ensures) (tracks_none, omega arith)

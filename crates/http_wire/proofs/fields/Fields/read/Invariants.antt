@@ -2,7 +2,7 @@ use Rattle.std.proofs.Common.{◌≡◌, true, take, map, []}
 use Rattle.http_header.specs.HeaderMap.{append_all}
 use Rattle.httparse.specs.Spans.{header_bytes}
 use Rattle.http_wire.specs.Fields.{are_field_names, lowered}
-use Rattle.http_wire.proofs.checks.read_fields.Given as goal
+use Rattle.http_wire.proofs.fields.Fields.read.Given as goal
 
 -- the fields so far, each with a name
 abbrev pub invariant-loop-header : goal.invariant-loop-header

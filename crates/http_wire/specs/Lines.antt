@@ -1,10 +1,7 @@
--- Lines, and words on bytes.
-use Rattle.std.specs.Prelude.{ℕ, Bool, true, false, ◌&&◌, List, [], ◌∷◌, length, if◌then◌else◌, ◌==◌, nat_lt, bytes_eq, Option, Some, None, count_by}
-use Rattle.std.specs.List.{list_all, list_any, slice_split}
+-- The lines of a text.
+use Rattle.std.specs.Prelude.{ℕ, List, [], ◌∷◌, if◌then◌else◌, ◌==◌, Option, Some, None, count_by}
 use Rattle.std.specs.Option.{option_map}
-use Rattle.std.specs.Char.{is_ascii_digit}
-use Rattle.http_header.specs.Token.{lowercase}
-use Rattle.httparse.specs.Grammar.{LineEnd, crlf, lf, trim_ows}
+use Rattle.httparse.specs.Grammar.{LineEnd, crlf, lf}
 
 -- steps of a reading that may fail
 infixl 10 ◌>>=◌
@@ -42,23 +39,3 @@ cut_at stop (b ∷ bytes) = if b == stop then Some ([], bytes) else option_map (
 -- how many line feeds there are
 abbrev pub line_feeds : List ℕ → ℕ
 line_feeds bytes = count_by (λ b. b == 10) bytes
-
-abbrev pub is_empty : {A : Type 0} → List A → Bool
-is_empty [] = true
-is_empty (x ∷ xs) = false
-
--- one or more digits
-abbrev pub is_number : List ℕ → Bool
-is_number bytes = nat_lt 0 (length bytes) && list_all is_ascii_digit bytes
-
--- the same text but for the case of its letters
-abbrev pub same_name : List ℕ → List ℕ → Bool
-same_name a b = bytes_eq (lowercase a) b
-
--- the parts between the commas
-abbrev pub parts_at_commas : List ℕ → List (List ℕ)
-parts_at_commas bytes = slice_split (λ b. b == 44) bytes
-
--- one of the values has the token among its parts at commas
-abbrev pub has_token : List (List ℕ) → List ℕ → Bool
-has_token values token = list_any (λ value. list_any (λ part. same_name (trim_ows part) token) (parts_at_commas value)) values

@@ -8,7 +8,7 @@ use Rattle.std.proofs.lemmas.List.{take_all}
 use Rattle.httparse.specs.declared.spans.HeaderSpan.{HeaderSpan}
 use Rattle.http_wire.proofs.FieldSizeLemmas.{size_made}
 use Rattle.http_wire.proofs.CheckLemmas.{fields_refused, fields_named, fields_made, fields_all}
-use Rattle.http_wire.proofs.checks.read_fields.Goals as goal
+use Rattle.http_wire.proofs.fields.Fields.read.Goals as goal
 
 pub returns-in-Err-Invalid : goal.returns-in-Err-Invalid
 returns-in-Err-Invalid c =

@@ -1,10 +1,10 @@
 use Rattle.std.proofs.Common.{◌≡◌, ◌≤◌, take}
 use Rattle.std.specs.Str.Parse.{digits_value}
-use Rattle.http_wire.proofs.checks.number.Given as goal
+use Rattle.http_wire.proofs.values.number.Given as goal
 
 -- the number so far
 abbrev pub invariant-loop-b : goal.invariant-loop-b
 invariant-loop-b l = record {
   is : l.n ≡ digits_value 10 (take l.b-index l.digits);
-  fits : l.n ≤ 1048576;
+  fits : l.n ≤ l.limit;
 }

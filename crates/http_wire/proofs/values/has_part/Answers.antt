@@ -1,10 +1,10 @@
 use Rattle.std.proofs.Common.{rules, List, ℕ}
 use Rattle.std.specs.Prelude.{◌==◌}
 use Rattle.httparse.specs.Grammar.{trim_ows}
-use Rattle.http_wire.specs.Texts.{same_name}
+use Rattle.auth_grammar.specs.Names.{same_name}
 use Rattle.std.proofs.lemmas.Iterator.Search.{any_from_yields_List}
 use Rattle.std.proofs.lemmas.Iterator.Splits.{YieldsList-from_slice_split}
-use Rattle.http_wire.proofs.checks.has_part.Goals as goal
+use Rattle.http_wire.proofs.values.has_part.Goals as goal
 
 pub returns : goal.returns
 returns c =
