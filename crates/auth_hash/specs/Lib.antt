@@ -1,3 +1,4 @@
+pub mod Algorithm
 pub mod Digits
 pub mod Hash
 pub mod Hasher

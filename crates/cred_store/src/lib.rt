@@ -1,0 +1,8 @@
+//! The store of secrets: a text that holds no password, and look-ups in it.
+#![tactic(auto)]
+
+mod entry;
+mod store;
+
+pub use entry::{Entry, Secret};
+pub use store::{Store, StoreError};
