@@ -1,1 +1,9 @@
 pub mod Stripping
+pub mod Moves
+pub mod FormReadings
+pub mod ElementLists
+pub mod StateLaws
+pub mod CollectingLaws
+pub mod ReaderSteps
+pub mod RepeatLaws
+pub mod Joins

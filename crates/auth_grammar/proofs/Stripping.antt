@@ -1,5 +1,5 @@
 -- What is left of a text without its prefix or its suffix.
-use Rattle.std.proofs.Common.{◌≡◌, ◌≢◌, ◌+◌, ◌-◌, ℕ, Bool, true, false, Option, Some, None, List, ◌++◌, length, take, drop, eqb, Bor}
+use Rattle.std.proofs.Common.{◌≡◌, ◌≢◌, ◌+◌, ◌-◌, ℕ, true, false, Option, Some, None, List, ◌++◌, length, take, drop, eqb, Bor}
 use Rattle.std.specs.Option.{MatchOption, IfSome, IfNone}
 use Rattle.std.specs.Cmp.Lexicographic.{pointwise}
 use Rattle.std.proofs.lemmas.Bool.Decides.{Decides-eqb}

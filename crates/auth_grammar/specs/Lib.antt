@@ -1,2 +1,13 @@
 pub mod Names
 pub mod Plain
+pub mod Kinds
+pub mod Grammar
+pub mod Items
+pub mod Reach
+pub mod Repeats
+pub mod Answers
+pub mod Readings
+pub mod Positions
+pub mod States
+pub mod Collecting
+pub mod Steps

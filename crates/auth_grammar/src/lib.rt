@@ -1,16 +1,32 @@
-//! Challenges and credentials of HTTP authentication (RFC 9110 section 11): their bytes, lists and items.
+//! Challenges and credentials of HTTP authentication (RFC 9110 section 11): reading, writing, and
+//! the strings and lists that they are made of.
 #![tactic(auto)]
 
+mod collected;
 mod cuts;
+mod elements;
+mod error;
+mod grammar;
+mod groups;
 mod items;
+mod kept;
+mod kinds;
 mod names;
 mod octets;
 mod plain;
+mod position;
+mod read;
+mod reader;
+mod repeats;
 mod sequence;
+mod turns;
 
 pub use cuts::{before, behind, cut_at};
+pub use error::GrammarError;
+pub use grammar::Grammar;
 pub use items::{Item, ItemList, OctetsList, Param, ParamList, Quoting, Rest, Role};
 pub use names::{has_repeat, same_name, value_of};
 pub use octets::{Octets, OutOfMemory};
 pub use plain::{NAME_LIMIT, is_plain_name, is_printable};
+pub use read::{read_challenges, read_credentials, read_params};
 pub use sequence::Sequence;

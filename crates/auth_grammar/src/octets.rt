@@ -2,6 +2,7 @@
 ghost use Rattle.std.specs.Prelude.{◌≡◌, ◌∷◌, ◌++◌, ◌<◌, ◌^◌, [], length, IfOk, OnOk, OnErr};
 
 use std::alloc::{AllocError, AllocFailed, Global};
+use std::cmp::Ordering;
 use std::marker::Model;
 
 /// There was no memory for what was asked.
@@ -21,7 +22,7 @@ impl<T: Drop> From<AllocFailed<T>> for OutOfMemory {
 }
 
 /// A string of any bytes. Contracts see it as the list of its bytes.
-#[derive(Drop, Clone)]
+#[derive(Debug, Drop, Clone)]
 pub struct Octets {
     bytes: Vec<u8>,
 }
@@ -119,5 +120,43 @@ impl PartialEq for Octets {
 
     fn eq(&self, other: &Octets) -> bool {
         self.bytes() == other.bytes()
+    }
+}
+
+impl Eq for Octets {
+    ghost use Rattle.std.specs.Cmp.Lexicographic.{nat_list_eq_equiv};
+
+    ghost laws = { nat_list_eq_equiv };
+}
+
+impl PartialOrd for Octets {
+    ghost use Rattle.std.specs.Prelude.{Some};
+    ghost use Rattle.std.specs.Ordering.{nat_cmp};
+    ghost use Rattle.std.specs.Cmp.Lexicographic.{slice_cmp, texts_po};
+
+    ghost partial_cmp = { λ x y. Some (slice_cmp nat_cmp x y) };
+
+    ghost laws = { texts_po };
+
+    fn partial_cmp(&self, other: &Octets) -> Option<Ordering> {
+        Some(self.cmp(other))
+    }
+}
+
+impl Ord for Octets {
+    ghost use Rattle.std.specs.Prelude.{refl};
+    ghost use Rattle.std.specs.Ordering.{nat_cmp};
+    ghost use Rattle.std.specs.Cmp.Lexicographic.{slice_cmp, nat_list_cmp_total, texts_ties};
+
+    ghost cmp = { slice_cmp nat_cmp };
+
+    ghost total = { nat_list_cmp_total };
+
+    ghost matches_partial_cmp = { λ x y. refl };
+
+    ghost matches_eq = { texts_ties };
+
+    fn cmp(&self, other: &Octets) -> Ordering {
+        self.bytes().cmp(other.bytes())
     }
 }

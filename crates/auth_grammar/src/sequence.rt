@@ -1,5 +1,5 @@
 //! Lists that own their memory.
-ghost use Rattle.std.specs.Prelude.{◌≡◌, ◌∷◌, ◌++◌, ◌<◌, ◌↔◌, ◌^◌, [], length, IfOk, OnOk, OnErr, IsTrue, slice_get, option_copied};
+ghost use Rattle.std.specs.Prelude.{◌≡◌, ◌∷◌, ◌++◌, ◌<◌, ◌↔◌, ◌^◌, [], length, IfOk, OnOk, OnErr, IfNone, IsTrue, option_to_list, slice_get, option_copied};
 
 use crate::octets::OutOfMemory;
 use std::alloc::Global;
@@ -29,6 +29,21 @@ impl<T: Drop> Sequence<T> {
         }
     }
 
+    /// The vector's items, with no copy.
+    pub fn from_vec(items: Vec<T>) -> Sequence<T>
+        ensures { result ≡ items.items }
+    {
+        Sequence { items }
+    }
+
+    /// The items as a vector, with no copy.
+    pub fn into_vec(self) -> Vec<T>
+        ensures { result.items ≡ self }
+    {
+        let Sequence { items } = self;
+        items
+    }
+
     /// Adds the item at the end. It is dropped where there is no memory.
     pub fn push(&mut self, item: T) -> Result<(), OutOfMemory>
         ensures ok { OnOk result (self.new ≡ self.old ++ item ∷ []) }
@@ -36,6 +51,14 @@ impl<T: Drop> Sequence<T> {
     {
         self.items.push(item)?;
         Ok(())
+    }
+
+    /// Takes the last item, or None where there is none.
+    pub fn pop(&mut self) -> Option<T>
+        ensures items { self.old ≡ self.new ++ option_to_list result }
+        ensures none { IfNone result (self.old ≡ []) }
+    {
+        self.items.pop()
     }
 
     /// How many items it has.

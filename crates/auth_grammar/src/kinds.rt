@@ -1,0 +1,77 @@
+//! The kinds of bytes that the grammar tells apart.
+ghost use Rattle.std.specs.Prelude.{◌≡◌};
+ghost use Rattle.auth_grammar.specs.Kinds.{kind_of, is_plain_byte, is_mark_byte};
+
+/// What a byte can be in the grammar.
+#[derive(Clone, Copy, Debug, PartialEq, Eq)]
+pub enum Kind {
+    Comma,
+    Space,
+    Tab,
+    Equals,
+    Quote,
+    Backslash,
+    /// `/`, in a token68 alone
+    Slash,
+    /// letters, digits and `-._~+`, in tokens and in a token68
+    Plain,
+    /// the other bytes of a token
+    Mark,
+    /// in quotes alone
+    Quotable,
+    /// nowhere
+    Control,
+}
+
+/// The kind of a byte.
+#[tactic(auto, unfolding(crate::specs::Kinds::kind_of))]
+pub fn kind_at(b: u8) -> Kind
+    ensures { result ≡ kind_of b }
+{
+    if b == 44 {
+        Kind::Comma
+    } else if b == 32 {
+        Kind::Space
+    } else if b == 9 {
+        Kind::Tab
+    } else if b == 61 {
+        Kind::Equals
+    } else if b == 34 {
+        Kind::Quote
+    } else if b == 92 {
+        Kind::Backslash
+    } else if b == 47 {
+        Kind::Slash
+    } else if is_plain(b) {
+        Kind::Plain
+    } else if is_mark(b) {
+        Kind::Mark
+    } else if b < 32 || b == 127 {
+        Kind::Control
+    } else {
+        Kind::Quotable
+    }
+}
+
+#[tactic(auto, unfolding(crate::specs::Kinds::is_plain_byte))]
+fn is_plain(b: u8) -> bool
+    ensures { result ≡ is_plain_byte b }
+{
+    b.is_ascii_alphanumeric() || b == 45 || b == 46 || b == 95 || b == 126 || b == 43
+}
+
+#[tactic(auto, unfolding(crate::specs::Kinds::is_mark_byte))]
+fn is_mark(b: u8) -> bool
+    ensures { result ≡ is_mark_byte b }
+{
+    b == 33
+        || b == 35
+        || b == 36
+        || b == 37
+        || b == 38
+        || b == 39
+        || b == 42
+        || b == 94
+        || b == 96
+        || b == 124
+}

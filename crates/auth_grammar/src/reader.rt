@@ -1,0 +1,120 @@
+//! Reading a text byte by byte.
+ghost use Rattle.std.specs.Prelude.{◌≡◌, ◌<◌, ◌^◌, IfErr, IfOk, IsSome, OnOk, length};
+ghost use Rattle.auth_grammar.specs.Answers.{Refuses};
+ghost use Rattle.auth_grammar.specs.Collecting.{begun_of};
+ghost use Rattle.auth_grammar.specs.Items.{Spells};
+ghost use Rattle.auth_grammar.specs.Positions.{ending};
+ghost use Rattle.auth_grammar.specs.Steps.{Does, Finishes, Steps, with_ended};
+
+use crate::collected::Collected;
+use crate::elements::{ended, may_end};
+use crate::error::GrammarError;
+use crate::grammar::Grammar;
+use crate::groups::Grouped;
+use crate::kept::Kept;
+use crate::kinds::kind_at;
+use crate::octets::OutOfMemory;
+use crate::position::{Position, Turn};
+use crate::turns::turn_at;
+use std::alloc::Global;
+use std::mem;
+
+/// A reader of one text.
+#[derive(Drop)]
+pub struct Reader {
+    pub position: Position,
+    pub kept: Kept,
+    pub collected: Collected,
+}
+
+impl Reader {
+    /// A reader before its first byte.
+    pub fn new(alloc: Global, grammar: Grammar) -> Reader
+        ensures position { result.position ≡ Position.Start }
+        ensures collected { result.collected ≡ begun_of grammar }
+    {
+        Reader {
+            position: Position::Start,
+            kept: Kept::new(alloc),
+            collected: Collected::new(alloc, grammar),
+        }
+    }
+
+    /// Ends the element that has begun.
+    fn end(&mut self, alloc: Global) -> Result<(), OutOfMemory>
+        requires { IsSome (ending self.old.position self.old.kept) }
+        ensures position { OnOk result (self.new.position ≡ Position.Start) }
+        ensures collected { OnOk result (self.new.collected ≡ with_ended self.old.collected (ending self.old.position self.old.kept)) }
+    {
+        let kept = mem::replace(&mut self.kept, Kept::new(alloc));
+        let element = ended(alloc, kept, self.position)?;
+        let collected = mem::replace(&mut self.collected, Collected::One(None));
+        self.collected = collected.add(alloc, element)?;
+        self.position = Position::Start;
+        Ok(())
+    }
+
+    /// Does what a turn says of its byte. Ok(false) says that no text goes on so.
+    fn take_turn(&mut self, alloc: Global, turn: Turn, at: u32, b: u8) -> Result<bool, OutOfMemory>
+        requires { turn ≡ Turn.End → IsSome (ending self.old.position self.old.kept) }
+        ensures { IfOk result (λ goes. Does turn self.old (record { at = at; byte = b }) goes self.new) }
+    {
+        match turn {
+            Turn::Dead => Ok(false),
+            Turn::End => {
+                self.end(alloc)?;
+                Ok(true)
+            }
+            Turn::Go(position, effect) => {
+                self.kept.keep(alloc, effect, at, b)?;
+                self.position = position;
+                Ok(true)
+            }
+        }
+    }
+
+    /// Reads one byte, which stands at a place. Ok(false) says that no text goes on so.
+    pub fn step(&mut self, alloc: Global, at: u32, b: u8) -> Result<bool, OutOfMemory>
+        ensures { IfOk result (λ goes. Steps self.old (record { at = at; byte = b }) goes self.new) }
+    {
+        let params = self.collected.takes_param();
+        let schemes = self.collected.takes_scheme();
+        let turn = turn_at(self.position, kind_at(b), params, schemes);
+        self.take_turn(alloc, turn, at, b)
+    }
+
+    /// What the text spells, which ends at a place.
+    pub fn finish(self, alloc: Global, at: u32) -> Result<Grouped, GrammarError>
+        ensures { Finishes self at result }
+    {
+        let mut reader = self;
+        if !may_end(reader.position) {
+            return Err(GrammarError::NotGrammar { at });
+        }
+        reader.end(alloc)?;
+        let Reader { collected, .. } = reader;
+        match collected.finish(alloc)? {
+            Some(x) => Ok(x),
+            None => Err(GrammarError::NotGrammar { at }),
+        }
+    }
+}
+
+/// What a text spells, whatever names come twice.
+pub fn read(alloc: Global, grammar: Grammar, text: &[u8]) -> Result<Grouped, GrammarError>
+    ensures spelled { IfOk result (λ x. Spells grammar text.now x) }
+    ensures refused { IfErr result (λ e. Refuses grammar text.now e) }
+{
+    if text.len() > u32::MAX as usize {
+        return Err(GrammarError::OutOfMemory);
+    }
+    let mut reader = Reader::new(alloc, grammar);
+    let mut at: u32 = 0;
+    for b in text {
+        if !reader.step(alloc, at, *b)? {
+            return Err(GrammarError::NotGrammar { at });
+        }
+        at += 1;
+    }
+    reader.finish(alloc, at)
+}
