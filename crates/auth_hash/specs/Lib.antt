@@ -3,3 +3,4 @@ pub mod Digits
 pub mod Hash
 pub mod Hasher
 pub mod HexText
+pub mod Qop

@@ -1,6 +1,7 @@
 //! The choices that a Digest challenge offers.
 ghost use Rattle.std.specs.Prelude.{◌≡◌};
 ghost use Rattle.auth_hash.specs.Algorithm.{same_algorithm};
+ghost use Rattle.auth_hash.specs.Qop.{qop_name};
 
 /// A hash algorithm of HTTP Digest (RFC 7616 section 6.1). `Sha512t256` is SHA-512/256, whose name in
 /// a field is `SHA-512-256`.
@@ -30,4 +31,16 @@ impl Algorithm {
 pub enum Qop {
     Auth,
     AuthInt,
+}
+
+impl Qop {
+    /// How it is written, `auth` or `auth-int`.
+    pub fn name(&self) -> &'static [u8]
+        ensures { result.now ≡ qop_name self.now }
+    {
+        match self {
+            Qop::Auth => b"auth",
+            Qop::AuthInt => b"auth-int",
+        }
+    }
 }

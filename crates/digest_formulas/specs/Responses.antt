@@ -1,14 +1,10 @@
 -- The responses of HTTP Digest (RFC 7616 sections 3.4.1, 3.4.3 and 3.5).
-use Rattle.std.specs.Prelude.{ℕ, List, [], ◌∷◌, codes}
+use Rattle.std.specs.Prelude.{ℕ, List, [], ◌∷◌}
 use Rattle.auth_hash.specs.Hash.{hash_text, joined}
+use Rattle.auth_hash.specs.Qop.{qop_name}
 use Rattle.auth_hash.specs.declared.algorithm.Algorithm.{Algorithm}
 use Rattle.auth_hash.specs.declared.algorithm.Qop.{Qop}
 use Rattle.auth_hash.specs.declared.algorithm.Qop.TheVariants.{Auth, AuthInt}
-
--- how a quality of protection is written
-abbrev pub qop_name : Qop → List ℕ
-qop_name Auth = codes "auth"
-qop_name AuthInt = codes "auth-int"
 
 -- A2: method:uri, or method:uri:H(body)
 abbrev pub action : Algorithm → Qop → List ℕ → List ℕ → List ℕ → List ℕ

@@ -23,26 +23,15 @@ pub fn response(
         ≡ response_value algorithm secret.now nonce.now nc.now cnonce.now qop method.now uri.now body.now }
 {
     let action = hashed_action(algorithm, qop, method, uri, body);
-    match qop {
-        Qop::Auth => keyed_digest(
-            algorithm,
-            secret.bytes(),
-            nonce,
-            nc,
-            cnonce,
-            b"auth",
-            action.bytes(),
-        ),
-        Qop::AuthInt => keyed_digest(
-            algorithm,
-            secret.bytes(),
-            nonce,
-            nc,
-            cnonce,
-            b"auth-int",
-            action.bytes(),
-        ),
-    }
+    keyed_digest(
+        algorithm,
+        secret.bytes(),
+        nonce,
+        nc,
+        cnonce,
+        qop.name(),
+        action.bytes(),
+    )
 }
 
 /// The `rspauth` of an `Authentication-Info` (RFC 7616 section 3.5): as `response`, but with no
