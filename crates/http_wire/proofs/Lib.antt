@@ -8,3 +8,4 @@ pub mod RequestFeedLemmas
 pub mod DateLemmas
 pub mod RequestRunLemmas
 pub mod FieldSizeLemmas
+pub mod StatusLemmas
