@@ -3,6 +3,7 @@
 
 mod entry;
 mod store;
+mod text;
 
 pub use entry::{Entry, Secret};
 pub use store::{Store, StoreError};

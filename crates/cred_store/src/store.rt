@@ -1,10 +1,14 @@
 //! The store of secrets.
 ghost use Rattle.std.specs.Prelude.{◌≡◌, ◌≢◌, [], ◌∷◌, IfOk, IfSome, IfNone, option_copied};
 ghost use Rattle.cred_store.specs.LookUps.{secret_of, name_of_hash};
+ghost use Rattle.cred_store.specs.Texts.{IsEntry, store_text};
+ghost use Rattle.cred_store.specs.declared.entry.Entry.{Entry as EntryValue};
 
 use crate::entry::{Entry, is_hashed, is_keyed};
-use auth_grammar::{Octets, OutOfMemory};
+use crate::text::entry_of;
+use auth_grammar::{Octets, OutOfMemory, before, behind};
 use auth_hash::{Algorithm, HexText};
+use std::alloc::Global;
 use std::marker::Model;
 use thiserror::Error;
 
@@ -43,7 +47,27 @@ impl Model for Store {
     ghost view = { λ s. s.entry ∷ [] };
 }
 
+/// The first line, with its line feed.
+const HEADER: &[u8] = b"authstore 1\n";
+
 impl Store {
+    /// Reads a text of the one form that is built so far: with one entry.
+    pub fn read(alloc: Global, text: &[u8]) -> Result<Store, StoreError>
+        ensures ok { IfOk result (λ store. (entry : EntryValue) × IsEntry entry × (store ≡ entry ∷ []) × (text.now ≡ store_text (entry ∷ []))) }
+        ensures not_built { result ≡ Err StoreError.NotBuilt → (entry : EntryValue) → IsEntry entry → text.now ≢ store_text (entry ∷ []) }
+    {
+        let Some(rest) = behind(text, HEADER) else {
+            return Err(StoreError::NotBuilt);
+        };
+        let Some(line) = before(rest, b"\n") else {
+            return Err(StoreError::NotBuilt);
+        };
+        let Some(entry) = entry_of(alloc, line)? else {
+            return Err(StoreError::NotBuilt);
+        };
+        Ok(Store { entry })
+    }
+
     /// The secret of this name in this realm, if there is one of this algorithm.
     pub fn secret(&self, name: &[u8], realm: &[u8], alg: Algorithm) -> Option<HexText>
         ensures { result ≡ secret_of name.now realm.now alg self.now }
