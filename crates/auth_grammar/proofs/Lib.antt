@@ -7,3 +7,6 @@ pub mod CollectingLaws
 pub mod ReaderSteps
 pub mod RepeatLaws
 pub mod Joins
+pub mod WalkLaws
+pub mod FeedLaws
+pub mod ReadLaws

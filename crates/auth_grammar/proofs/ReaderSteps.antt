@@ -19,8 +19,8 @@ use Rattle.auth_grammar.specs.declared.error.GrammarError.TheVariants.{NotGramma
 use Rattle.auth_grammar.specs.Grammar.{Spot}
 use Rattle.auth_grammar.specs.Reach.{Begins, Stops}
 use Rattle.auth_grammar.specs.Positions.{ending, kept_after, Turns, EndsElement}
-use Rattle.auth_grammar.specs.Items.{Spells}
-use Rattle.auth_grammar.specs.Collecting.{rules, begun_of, add_element, takes_param, takes_scheme, finished}
+use Rattle.auth_grammar.specs.Items.{Spells, SpellsOnly}
+use Rattle.auth_grammar.specs.Collecting.{rules, begun_of, add_element, takes_param, takes_scheme, finished, joined}
 use Rattle.auth_grammar.specs.Steps.{with_ended, Does, Steps, Finishes}
 use Rattle.auth_grammar.specs.Answers.{Refuses}
 use Rattle.auth_grammar.specs.States.{Follows}
@@ -129,8 +129,16 @@ module _ (k : Grammar) where
       subst (λ (x : ℕ). Stops (Spells k) text x) (sym a)
       (dead_stops text i (reads_begins old (take i text) f) l (subst (λ (x : Bool). After new (take (i + 1) text) x) g (step_after old new text i at goes f a l s)))
 
-  pub end_spelled : (r : Reader) (text : List ℕ) (at : ℕ) (res : Result Grouped GrammarError) → HasRead r text → at ≡ length text → Finishes r at res → IfOk res (λ x. Spells k text x)
-  end_spelled r text at (Ok x) f a h = finished_ok r text x h.0 f h.1 h.2
+  finished_only : (r : Reader) (text : List ℕ) (x : Grouped) (e : Element) → HasRead r text → ending r.position r.kept ≡ Some e → finished (add_element r.collected e) ≡ Some x → (y : Grouped) → Spells k text y → y ≡ x
+  finished_only r text x e f h g y s =
+      let l = follows_only (rules k) (laws k) r.collected r.position r.kept text y f (spelled_to k text y s) in
+      same l.0 (cc (h, l.1)) l.2
+    where
+      same : (d : Element) → d ≡ e → joined (add_element r.collected d) [] [] ≡ Some y → y ≡ x
+      same d i p = (let q : finished (add_element r.collected e) ≡ Some y = sym (makes_end (add_element r.collected e)) ∙ subst (λ (z : Element). joined (add_element r.collected z) [] [] ≡ Some y) i p in cc (q, g))
+
+  pub end_spelled : (r : Reader) (text : List ℕ) (at : ℕ) (res : Result Grouped GrammarError) → HasRead r text → at ≡ length text → Finishes r at res → IfOk res (λ x. SpellsOnly k text x)
+  end_spelled r text at (Ok x) f a h = (finished_ok r text x h.0 f h.1 h.2, finished_only r text x h.0 f h.1 h.2)
   end_spelled r text at (Err e) f a h = tt
 
   pub end_refused : (r : Reader) (text : List ℕ) (at : ℕ) (res : Result Grouped GrammarError) → HasRead r text → at ≡ length text → Finishes r at res → IfErr res (λ e. Refuses k text e)

@@ -50,6 +50,10 @@ IsOf Of.Params x = x.groups ≡ []
 abbrev pub Spells : Grammar → List ℕ → Grouped → Type 0
 Spells grammar text x = (elements : List Element) × Splits (spots 0 text) elements × (grouping elements ≡ Some x) × IsOf grammar x
 
+-- a text of that grammar spells x and nothing else
+abbrev pub SpellsOnly : Grammar → List ℕ → Grouped → Type 0
+SpellsOnly grammar text x = Spells grammar text x × ((y : Grouped) → Spells grammar text y → y ≡ x)
+
 -- parameters without their places
 abbrev pub unplaced : List Placed → List Param
 unplaced params = map (λ p. p.param) params

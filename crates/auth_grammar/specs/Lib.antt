@@ -11,3 +11,5 @@ pub mod Positions
 pub mod States
 pub mod Collecting
 pub mod Steps
+pub mod Walks
+pub mod Feeds

@@ -1,8 +1,10 @@
 //! Reading challenges, credentials and parameters.
-ghost use Rattle.std.specs.Prelude.{◌≡◌, IfErr, IfOk, false};
+ghost use Rattle.std.specs.Prelude.{◌≡◌, IfErr, IfOk, List, false};
 ghost use Rattle.std.specs.List.{join_with_byte};
+ghost use Rattle.auth_grammar.specs.declared.items.Item.{Item};
+ghost use Rattle.auth_grammar.specs.declared.items.Param.{Param};
 ghost use Rattle.auth_grammar.specs.Answers.{Refuses};
-ghost use Rattle.auth_grammar.specs.Items.{Spells, SpellsChallenges, SpellsCredentials, SpellsParams};
+ghost use Rattle.auth_grammar.specs.Items.{SpellsChallenges, SpellsCredentials, SpellsOnly, SpellsParams};
 ghost use Rattle.auth_grammar.specs.Names.{has_repeat, params_of};
 ghost use Rattle.auth_grammar.specs.Repeats.{AreSingle, HaveSingleNames, lists_in};
 
@@ -21,11 +23,22 @@ use std::alloc::Global;
 /// answered as want of memory.
 pub fn read_challenges(alloc: Global, lines: &OctetsList) -> Result<ItemList, GrammarError>
     ensures spelled { IfOk result (λ items. SpellsChallenges (join_with_byte 44 lines.now) items) }
+    ensures only { IfOk result (λ items. (other : List Item) → SpellsChallenges (join_with_byte 44 lines.now) other → other ≡ items) }
     ensures single { IfOk result (λ items. HaveSingleNames items) }
     ensures refused { IfErr result (λ e. Refuses Grammar.Challenges (join_with_byte 44 lines.now) e) }
 {
     let text = joined(alloc, lines)?;
-    let x = read_single(alloc, Grammar::Challenges, text.bytes())?;
+    read_text(alloc, text.bytes())
+}
+
+/// Reads challenges from one text.
+pub fn read_text(alloc: Global, text: &[u8]) -> Result<ItemList, GrammarError>
+    ensures spelled { IfOk result (λ items. SpellsChallenges text.now items) }
+    ensures only { IfOk result (λ items. (other : List Item) → SpellsChallenges text.now other → other ≡ items) }
+    ensures single { IfOk result (λ items. HaveSingleNames items) }
+    ensures refused { IfErr result (λ e. Refuses Grammar.Challenges text.now e) }
+{
+    let x = read_single(alloc, Grammar::Challenges, text)?;
     let Grouped { groups, .. } = x;
     Ok(unplaced_items(alloc, groups)?)
 }
@@ -34,6 +47,7 @@ pub fn read_challenges(alloc: Global, lines: &OctetsList) -> Result<ItemList, Gr
 /// and length are as for `read_challenges`.
 pub fn read_credentials(alloc: Global, text: &[u8]) -> Result<Item, GrammarError>
     ensures spelled { IfOk result (λ item. SpellsCredentials text.now item) }
+    ensures only { IfOk result (λ item. (other : Item) → SpellsCredentials text.now other → other ≡ item) }
     ensures single { IfOk result (λ item. has_repeat (params_of item.rest) ≡ false) }
     ensures refused { IfErr result (λ e. Refuses Grammar.Credentials text.now e) }
 {
@@ -50,6 +64,7 @@ pub fn read_credentials(alloc: Global, text: &[u8]) -> Result<Item, GrammarError
 /// 11.6.3). Lines, time and length are as for `read_challenges`.
 pub fn read_params(alloc: Global, lines: &OctetsList) -> Result<ParamList, GrammarError>
     ensures spelled { IfOk result (λ params. SpellsParams (join_with_byte 44 lines.now) params) }
+    ensures only { IfOk result (λ params. (other : List Param) → SpellsParams (join_with_byte 44 lines.now) other → other ≡ params) }
     ensures single { IfOk result (λ params. has_repeat params ≡ false) }
     ensures refused { IfErr result (λ e. Refuses Grammar.Params (join_with_byte 44 lines.now) e) }
 {
@@ -61,7 +76,7 @@ pub fn read_params(alloc: Global, lines: &OctetsList) -> Result<ParamList, Gramm
 
 /// What a text spells, in which no name comes twice in one item.
 fn read_single(alloc: Global, grammar: Grammar, text: &[u8]) -> Result<Grouped, GrammarError>
-    ensures spelled { IfOk result (λ x. Spells grammar text.now x) }
+    ensures spelled { IfOk result (λ x. SpellsOnly grammar text.now x) }
     ensures single { IfOk result (λ x. AreSingle (lists_in x)) }
     ensures refused { IfErr result (λ e. Refuses grammar text.now e) }
 {

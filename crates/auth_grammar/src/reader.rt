@@ -2,7 +2,7 @@
 ghost use Rattle.std.specs.Prelude.{◌≡◌, ◌<◌, ◌^◌, IfErr, IfOk, IsSome, OnOk, length};
 ghost use Rattle.auth_grammar.specs.Answers.{Refuses};
 ghost use Rattle.auth_grammar.specs.Collecting.{begun_of};
-ghost use Rattle.auth_grammar.specs.Items.{Spells};
+ghost use Rattle.auth_grammar.specs.Items.{SpellsOnly};
 ghost use Rattle.auth_grammar.specs.Positions.{ending};
 ghost use Rattle.auth_grammar.specs.Steps.{Does, Finishes, Steps, with_ended};
 
@@ -102,7 +102,7 @@ impl Reader {
 
 /// What a text spells, whatever names come twice.
 pub fn read(alloc: Global, grammar: Grammar, text: &[u8]) -> Result<Grouped, GrammarError>
-    ensures spelled { IfOk result (λ x. Spells grammar text.now x) }
+    ensures spelled { IfOk result (λ x. SpellsOnly grammar text.now x) }
     ensures refused { IfErr result (λ e. Refuses grammar text.now e) }
 {
     if text.len() > u32::MAX as usize {

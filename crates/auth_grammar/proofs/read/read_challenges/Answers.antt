@@ -1,5 +1,0 @@
-use Rattle.auth_grammar.proofs.RepeatLaws.{single_items}
-use Rattle.auth_grammar.proofs.read.read_challenges.Goals as goal
-
-pub returns-clause-single : goal.returns-clause-single
-returns-clause-single c = single_items c.in_ok-x.x c.in_ok-x.ensures.single c.in_ok-unplaced_items.field-0 c.in_ok-unplaced_items.ensures
