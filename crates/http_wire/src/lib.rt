@@ -20,3 +20,6 @@ pub use fields::Fields;
 pub use pair::{Pair, PairList};
 pub use request::{Next, Request};
 pub use request_feed::RequestFeed;
+
+#[cfg(test)]
+mod tests;

@@ -163,7 +163,7 @@ impl RequestFeed {
             self.phase = Phase::Body { head, start, end };
             return Next::NeedMore;
         }
-        let Ok(body) = Octets::of(self.alloc, &rest[..head.body_len as usize]) else {
+        let Ok(body) = Octets::of(self.alloc, front_of(rest, head.body_len as usize)) else {
             self.phase = Phase::Body { head, start, end };
             return Next::OutOfMemory;
         };
@@ -176,7 +176,8 @@ impl RequestFeed {
     }
 
     /// The place of the bytes that weren't given yet, or None where they are whole empty lines alone.
-    /// After `NeedMore` that is the place of a message that has begun and isn't whole.
+    /// After `NeedMore` that is the place of a message that has begun and isn't whole. It looks through the empty lines
+    /// at the front, so it is for the end of the input.
     pub fn rest(&self) -> Option<u64>
         ensures { result ≡ (if begun_at self.now.rest then Some self.now.at else None) }
     {
@@ -215,6 +216,14 @@ fn behind(bytes: &[u8], at: usize) -> &[u8]
     ensures { result.now ≡ drop at bytes.now }
 {
     &bytes[at..]
+}
+
+// the first bytes
+fn front_of(bytes: &[u8], len: usize) -> &[u8]
+    requires { len ≤ length bytes.now }
+    ensures { result.now ≡ take len bytes.now }
+{
+    &bytes[..len]
 }
 
 fn with_body(request: Request, body: Octets) -> Request
