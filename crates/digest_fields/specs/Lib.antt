@@ -1,0 +1,13 @@
+pub mod Challenge
+pub mod ChallengeFields
+pub mod Credentials
+pub mod CredentialsFields
+pub mod Field
+pub mod Info
+pub mod InfoFields
+pub mod Kind
+pub mod Name
+pub mod Nc
+pub mod Qop
+pub mod Realm
+pub mod Write

@@ -1,0 +1,42 @@
+//! Realms.
+ghost use Rattle.std.specs.Prelude.{◌≡◌, IfOk, MatchResult};
+ghost use Rattle.std.specs.List.{list_all};
+ghost use Rattle.digest_fields.specs.Realm.{IsRealm, is_printable, realm_of};
+
+use crate::field::{FieldError, FieldName, at_most, required};
+use auth_grammar::Param;
+
+/// How many bytes a realm may have.
+const REALM_LIMIT: u32 = 64;
+
+/// The realm that the parameters say.
+#[tactic(auto, unfolding(crate::specs::Realm::realm_of))]
+pub(crate) fn realm_of(params: &[Param]) -> Result<&[u8], FieldError>
+    ensures value { MatchResult result
+        (λ realm. realm_of params.now ≡ Ok realm.now)
+        (λ error. realm_of params.now ≡ Err error) }
+    ensures form { IfOk result (λ realm. IsRealm realm.now) }
+{
+    let realm = required(params, FieldName::Realm)?;
+    at_most(REALM_LIMIT, FieldName::Realm, realm)?;
+    if !are_printable(realm) {
+        return Err(FieldError::BadValue {
+            name: FieldName::Realm,
+        });
+    }
+    Ok(realm)
+}
+
+fn are_printable(text: &[u8]) -> bool
+    ensures { result ≡ list_all is_printable text.now }
+{
+    text.iter().all(|&byte| is_printable(byte))
+}
+
+/// Whether a byte is a space or a visible character of ASCII.
+#[tactic(auto, unfolding(crate::specs::Realm::is_printable))]
+pub(crate) fn is_printable(byte: u8) -> bool
+    ensures { result ≡ is_printable byte }
+{
+    0x20 <= byte && byte <= 0x7e
+}
