@@ -1,0 +1,5 @@
+pub mod Machine
+pub mod Session
+pub mod Account
+pub mod Results
+pub mod Steps
