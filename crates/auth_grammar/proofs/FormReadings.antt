@@ -88,15 +88,15 @@ begin_to p next other (b ∷ text) (inl h) =
     inl (b ∷ r.0, r.1, ap (λ (x : Text). b ∷ x) r.2, b.at, refl, (h.0, r.3), r.4)
 begin_to p next other (b ∷ text) (inr h) = inr h
 
-both : (x y : Bool) → IsTrue x → IsTrue y → IsTrue (x && y)
+pub both : (x y : Bool) → IsTrue x → IsTrue y → IsTrue (x && y)
 both true y h k = k
 both false y h k = absurd (cc (h))
 
-left_of : (x y : Bool) → IsTrue (x && y) → IsTrue x
+pub left_of : (x y : Bool) → IsTrue (x && y) → IsTrue x
 left_of true y h = refl
 left_of false y h = h
 
-right_of : (x y : Bool) → IsTrue (x && y) → IsTrue y
+pub right_of : (x y : Bool) → IsTrue (x && y) → IsTrue y
 right_of true y h = h
 right_of false y h = absurd (cc (h))
 
@@ -168,7 +168,7 @@ within_to next false sofar (b ∷ text) (inr (inr (inl h))) =
     (s.0.byte ∷ r.0, b ∷ s.0 ∷ r.1, r.2, r.3, ap (λ (x : Text). b ∷ x) (s.2 ∙ ap (λ (x : Text). s.0 ∷ x) r.4), r.5, inr (b, s.0, r.1, refl, backslash_is b.byte h.0, refl, s.3, r.6), subst (λ (x : List ℕ). next x r.3) (append_assoc sofar (s.0.byte ∷ []) r.0) r.7)
 within_to next false sofar (b ∷ text) (inr (inr (inr h))) = absurd h
 
-bytes_append : (a b : Text) → bytes (a ++ b) ≡ bytes a ++ bytes b
+pub bytes_append : (a b : Text) → bytes (a ++ b) ≡ bytes a ++ bytes b
 bytes_append [] b = refl
 bytes_append (x ∷ a) b = ap (λ (y : List ℕ). x.byte ∷ y) (bytes_append a b)
 

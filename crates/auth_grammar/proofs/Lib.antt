@@ -10,3 +10,5 @@ pub mod Joins
 pub mod WalkLaws
 pub mod FeedLaws
 pub mod ReadLaws
+pub mod Written
+pub mod RoundTrip

@@ -1,21 +1,33 @@
-use Rattle.std.proofs.Common.{◌≡◌, ℕ, false, List, [], ◌∷◌, ◌++◌, refl, ap, sym, ◌∙◌, subst, map}
+use Rattle.std.proofs.Common.{◌≡◌, ℕ, false, List, [], ◌∷◌, ◌++◌, Ok, refl, ap, sym, ◌∙◌, subst, map}
 use Rattle.std.proofs.lemmas.List.Elements.{All-head}
-use Rattle.auth_grammar.specs.declared.items.Param.{Param}
-use Rattle.auth_grammar.specs.declared.items.Item.{Item}
 use Rattle.auth_grammar.specs.declared.grammar.Grammar.TheVariants.{Challenges, Credentials, Params}
-use Rattle.auth_grammar.specs.declared.groups.Group.{Group}
 use Rattle.auth_grammar.specs.declared.groups.Grouped.{Grouped}
-use Rattle.auth_grammar.specs.Items.{SpellsOnly, SpellsChallenges, SpellsCredentials, SpellsParams, item_of, unplaced}
+use Rattle.auth_grammar.specs.declared.items.Item.{Item}
+use Rattle.auth_grammar.specs.declared.items.Param.{Param}
+use Rattle.auth_grammar.specs.Answers.{AnswersChallenges, AnswersCredentials, AnswersParams}
+use Rattle.auth_grammar.specs.Items.{SpellsOnly, item_of, unplaced}
 use Rattle.auth_grammar.specs.Names.{has_repeat, params_of}
-use Rattle.auth_grammar.specs.Repeats.{AreSingle, HaveSingleNames, lists_in}
+use Rattle.auth_grammar.specs.Repeats.{AreSingle, HaveSingleNames, lists_in, params_in}
+use Rattle.auth_grammar.specs.declared.groups.Placed.{Placed}
 use Rattle.auth_grammar.proofs.RepeatLaws.{single_items}
 
--- a text that spells x alone spells its challenges alone
-pub only_challenges : (text : List ℕ) (x : Grouped) (items : List Item) → SpellsOnly Challenges text x → items ≡ map item_of x.groups → (other : List Item) → SpellsChallenges text other → other ≡ items
-only_challenges text x items s e other h = sym h.2 ∙ ap (λ (y : Grouped). map item_of y.groups) (s.1 h.0 h.1) ∙ sym e
+-- challenges that a text spells alone
+pub answers_challenges : (text : List ℕ) (x : Grouped) (items : List Item) → SpellsOnly Challenges text x → AreSingle (lists_in x) → items ≡ map item_of x.groups → AnswersChallenges text (Ok items)
+answers_challenges text x items s a e = record {
+  spelled = (x, s.0, sym e);
+  only = λ other h. sym h.2 ∙ ap (λ (y : Grouped). map item_of y.groups) (s.1 h.0 h.1) ∙ sym e;
+  single = single_items x a items e;
+  refused = tt;
+}
 
-pub only_params : (text : List ℕ) (x : Grouped) (params : List Param) → SpellsOnly Params text x → params ≡ unplaced x.params → (other : List Param) → SpellsParams text other → other ≡ params
-only_params text x params s e other h = sym h.2 ∙ ap (λ (y : Grouped). unplaced y.params) (s.1 h.0 h.1) ∙ sym e
+-- parameters that a text spells alone
+pub answers_params : (text : List ℕ) (x : Grouped) (params : List Param) → SpellsOnly Params text x → AreSingle (lists_in x) → params ≡ unplaced x.params → AnswersParams text (Ok params)
+answers_params text x params s a e = record {
+  spelled = (x, s.0, sym e);
+  only = λ other h. sym h.2 ∙ ap (λ (y : Grouped). unplaced y.params) (s.1 h.0 h.1) ∙ sym e;
+  single = ap has_repeat e ∙ All-head (λ (p : List Placed). has_repeat (unplaced p) ≡ false) x.params (map params_in x.groups) a;
+  refused = tt;
+}
 
 -- the last item of one item is that item
 last_of_one : (before : List Item) (item first : Item) → before ++ item ∷ [] ≡ first ∷ [] → first ∷ [] ≡ item ∷ []
@@ -23,13 +35,18 @@ last_of_one [] item first h = sym h
 last_of_one (a ∷ []) item first h = absurd (cc (h))
 last_of_one (a ∷ b ∷ before) item first h = absurd (cc (h))
 
-pub one_item : (x : Grouped) (items before : List Item) (item : Item) → (g : Group) × (x.groups ≡ g ∷ []) → items ≡ map item_of x.groups → items ≡ before ++ item ∷ [] → map item_of x.groups ≡ item ∷ []
-one_item x items before item g e h =
-    let one : map item_of x.groups ≡ item_of g.0 ∷ [] = ap (map item_of) g.1 in
-    one ∙ last_of_one before item (item_of g.0) (sym h ∙ e ∙ one)
-
-pub only_credentials : (text : List ℕ) (x : Grouped) (item : Item) → SpellsOnly Credentials text x → map item_of x.groups ≡ item ∷ [] → (other : Item) → SpellsCredentials text other → other ≡ item
-only_credentials text x item s e other h = (let k : other ∷ [] ≡ item ∷ [] = sym h.2 ∙ ap (λ (y : Grouped). map item_of y.groups) (s.1 h.0 h.1) ∙ e in cc (k))
-
-pub single_credentials : (x : Grouped) (item : Item) → AreSingle (lists_in x) → map item_of x.groups ≡ item ∷ [] → has_repeat (params_of item.rest) ≡ false
-single_credentials x item a e = All-head (λ (i : Item). has_repeat (params_of i.rest) ≡ false) item [] (subst (λ (y : List Item). HaveSingleNames y) e (single_items x a (map item_of x.groups) refl))
+-- credentials that a text spells alone
+pub answers_credentials : (text : List ℕ) (x : Grouped) (items before : List Item) (item : Item) → SpellsOnly Credentials text x → AreSingle (lists_in x) → items ≡ map item_of x.groups → items ≡ before ++ item ∷ [] → AnswersCredentials text (Ok item)
+answers_credentials text x items before item s a e h =
+    let i = s.0.3 in
+    let first : map item_of x.groups ≡ item_of i.1 ∷ [] = ap (map item_of) i.2 in
+    let one : map item_of x.groups ≡ item ∷ [] = first ∙ last_of_one before item (item_of i.1) (sym h ∙ e ∙ first) in
+    record {
+      spelled = (x, s.0, one);
+      only = λ other k. same other (sym k.2 ∙ ap (λ (y : Grouped). map item_of y.groups) (s.1 k.0 k.1) ∙ one);
+      single = All-head (λ (y : Item). has_repeat (params_of y.rest) ≡ false) item [] (subst (λ (y : List Item). HaveSingleNames y) one (single_items x a (map item_of x.groups) refl));
+      refused = tt;
+    }
+  where
+    same : (other : Item) → other ∷ [] ≡ item ∷ [] → other ≡ item
+    same other k = cc

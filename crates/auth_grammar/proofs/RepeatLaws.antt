@@ -9,7 +9,7 @@ use Rattle.std.proofs.lemmas.List.Elements.{All-nil, All-cons, All-push, All-hea
 use Rattle.auth_grammar.specs.declared.error.GrammarError.{GrammarError}
 use Rattle.auth_grammar.specs.declared.error.GrammarError.TheVariants.{NotGrammar, Twice, OutOfMemory}
 use Rattle.auth_grammar.specs.declared.groups.Group.{Group}
-use Rattle.auth_grammar.specs.Repeats.{IsRepeat, AreSingle, RefusesList, RefusesLists, HaveSingleNames, lists_in, params_in}
+use Rattle.auth_grammar.specs.Repeats.{IsRepeat, IsSecond, AreSingle, RefusesList, RefusesLists, HaveSingleNames, lists_in, params_in}
 use Rattle.std.proofs.Common.{Result, Ok, Err, IfErr, ◌+◌, ◌<◌, suc, length, take, drop, get_or, ◌≡◌, ℕ, Bool, true, false, not, cond, ◌||◌, List, [], ◌∷◌, ◌++◌, refl, ap, sym, ◌∙◌, subst, map}
 use Rattle.std.specs.BTreeSet.{BTreeSet, IsEmpty, Updates, contains}
 use Rattle.std.specs.Cmp.Lexicographic.{slice_cmp}
@@ -151,3 +151,32 @@ items_single (g ∷ groups) h =
 -- what is single with the places of names is so without them
 pub single_items : (x : Grouped) → AreSingle (lists_in x) → (items : List Item) → items ≡ map item_of x.groups → HaveSingleNames items
 single_items x h items e = subst (λ (y : List Item). HaveSingleNames y) (sym e) (items_single x.groups (All-tail IsSingle x.params (map params_in x.groups) h))
+
+true_or : (a b : Bool) → b ≡ true → (a || b) ≡ true
+true_or true b h = refl
+true_or false b h = h
+
+-- a name that came before makes a repeat
+repeat_here : (before : List Param) (p : Param) (after : List Param) → has_name p.name before ≡ true → has_repeat (before ++ p ∷ after) ≡ true
+repeat_here [] p after h = absurd (cc (h))
+repeat_here (q ∷ before) p after h = go (same_name q.name p.name) refl h (repeat_here before p after)
+  where
+    go : (b : Bool) → same_name q.name p.name ≡ b → (b || has_name p.name before) ≡ true → (has_name p.name before ≡ true → has_repeat (before ++ p ∷ after) ≡ true) → (has_name q.name (before ++ p ∷ after) || has_repeat (before ++ p ∷ after)) ≡ true
+    go true e k rest =
+        let found : has_name q.name (before ++ p ∷ after) ≡ true =
+        list_any-append (λ (r : Param). same_name r.name q.name) before (p ∷ after)
+        ∙ true_or (has_name q.name before) (same_name p.name q.name || has_name q.name after) (ap (λ (x : Bool). x || has_name q.name after) (same_name_comm p.name q.name ∙ e)) in
+        rw found refl
+    go false e k rest = true_or (has_name q.name (before ++ p ∷ after)) (has_repeat (before ++ p ∷ after)) (rest k)
+
+repeats_repeat : (params : List Placed) (p : Placed) → IsRepeat params p → has_repeat (unplaced params) ≡ true
+repeats_repeat params p r =
+    ap has_repeat (ap unplaced r.2 ∙ map-append (λ (q : Placed). q.param) r.0 (p ∷ r.1)) ∙ repeat_here (unplaced r.0) p.param (unplaced r.1) r.3
+
+single_at : (before : List (List Placed)) (here : List Placed) (after : List (List Placed)) → AreSingle (before ++ here ∷ after) → has_repeat (unplaced here) ≡ false
+single_at [] here after a = All-head IsSingle here after a
+single_at (first ∷ before) here after a = single_at before here after (All-tail IsSingle first (before ++ here ∷ after) a)
+
+-- a second name is one
+pub second_is : (lists : List (List Placed)) (p : Placed) → AreSingle lists → IsSecond lists p → ⊥
+second_is lists p a s = (let h = single_at s.0 s.1 s.2 (subst (λ (y : List (List Placed)). AreSingle y) s.3 a) in cc (h, repeats_repeat s.1 p s.5))

@@ -13,3 +13,5 @@ pub mod Collecting
 pub mod Steps
 pub mod Walks
 pub mod Feeds
+pub mod Valid
+pub mod Writing

@@ -1,9 +1,6 @@
 //! Reading challenges in pieces.
-ghost use Rattle.std.specs.Prelude.{◌≡◌, [], IfErr, IfOk, List, None};
-ghost use Rattle.auth_grammar.specs.declared.items.Item.{Item};
-ghost use Rattle.auth_grammar.specs.Answers.{Refuses};
-ghost use Rattle.auth_grammar.specs.Items.{SpellsChallenges};
-ghost use Rattle.auth_grammar.specs.Repeats.{HaveSingleNames};
+ghost use Rattle.std.specs.Prelude.{◌≡◌, [], None};
+ghost use Rattle.auth_grammar.specs.Answers.{AnswersChallenges};
 
 use crate::error::GrammarError;
 use crate::grammar::Grammar;
@@ -80,10 +77,7 @@ impl ItemFeed {
 
     /// Reads all the bytes, as `read_challenges` reads them as one line.
     pub fn finish(self, alloc: Global) -> Result<ItemList, GrammarError>
-        ensures spelled { IfOk result (λ items. SpellsChallenges self.text items) }
-        ensures only { IfOk result (λ items. (other : List Item) → SpellsChallenges self.text other → other ≡ items) }
-        ensures single { IfOk result (λ items. HaveSingleNames items) }
-        ensures refused { IfErr result (λ e. Refuses Grammar.Challenges self.text e) }
+        ensures { AnswersChallenges self.text result }
     {
         if let Some(at) = self.fault {
             return Err(GrammarError::NotGrammar { at });

@@ -1,6 +1,6 @@
 //! The kinds of bytes that the grammar tells apart.
 ghost use Rattle.std.specs.Prelude.{◌≡◌};
-ghost use Rattle.auth_grammar.specs.Kinds.{kind_of, is_plain_byte, is_mark_byte};
+ghost use Rattle.auth_grammar.specs.Kinds.{is_escapable, is_mark_byte, is_plain_byte, is_token, is_token68, kind_of};
 
 /// What a byte can be in the grammar.
 #[derive(Clone, Copy, Debug, PartialEq, Eq)]
@@ -21,6 +21,29 @@ pub enum Kind {
     Quotable,
     /// nowhere
     Control,
+}
+
+impl Kind {
+    /// Whether it stands in a token.
+    pub fn is_token(self) -> bool
+        ensures { result ≡ is_token self }
+    {
+        matches!(self, Kind::Plain | Kind::Mark)
+    }
+
+    /// Whether it stands in a token68 before its `=`.
+    pub fn is_token68(self) -> bool
+        ensures { result ≡ is_token68 self }
+    {
+        matches!(self, Kind::Plain | Kind::Slash)
+    }
+
+    /// Whether it may stand after a backslash in a quoted string.
+    pub fn is_escapable(self) -> bool
+        ensures { result ≡ is_escapable self }
+    {
+        !matches!(self, Kind::Control)
+    }
 }
 
 /// The kind of a byte.

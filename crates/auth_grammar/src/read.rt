@@ -1,12 +1,9 @@
 //! Reading challenges, credentials and parameters.
-ghost use Rattle.std.specs.Prelude.{◌≡◌, IfErr, IfOk, List, false};
+ghost use Rattle.std.specs.Prelude.{◌≡◌, IfErr, IfOk};
 ghost use Rattle.std.specs.List.{join_with_byte};
-ghost use Rattle.auth_grammar.specs.declared.items.Item.{Item};
-ghost use Rattle.auth_grammar.specs.declared.items.Param.{Param};
-ghost use Rattle.auth_grammar.specs.Answers.{Refuses};
-ghost use Rattle.auth_grammar.specs.Items.{SpellsChallenges, SpellsCredentials, SpellsOnly, SpellsParams};
-ghost use Rattle.auth_grammar.specs.Names.{has_repeat, params_of};
-ghost use Rattle.auth_grammar.specs.Repeats.{AreSingle, HaveSingleNames, lists_in};
+ghost use Rattle.auth_grammar.specs.Answers.{AnswersChallenges, AnswersCredentials, AnswersParams, Refuses};
+ghost use Rattle.auth_grammar.specs.Items.{SpellsOnly};
+ghost use Rattle.auth_grammar.specs.Repeats.{AreSingle, lists_in};
 
 use crate::error::GrammarError;
 use crate::grammar::Grammar;
@@ -22,10 +19,7 @@ use std::alloc::Global;
 /// length, but for n names in one item n log n comparisons. A text of 2^32 bytes or more is
 /// answered as want of memory.
 pub fn read_challenges(alloc: Global, lines: &OctetsList) -> Result<ItemList, GrammarError>
-    ensures spelled { IfOk result (λ items. SpellsChallenges (join_with_byte 44 lines.now) items) }
-    ensures only { IfOk result (λ items. (other : List Item) → SpellsChallenges (join_with_byte 44 lines.now) other → other ≡ items) }
-    ensures single { IfOk result (λ items. HaveSingleNames items) }
-    ensures refused { IfErr result (λ e. Refuses Grammar.Challenges (join_with_byte 44 lines.now) e) }
+    ensures { AnswersChallenges (join_with_byte 44 lines.now) result }
 {
     let text = joined(alloc, lines)?;
     read_text(alloc, text.bytes())
@@ -33,10 +27,7 @@ pub fn read_challenges(alloc: Global, lines: &OctetsList) -> Result<ItemList, Gr
 
 /// Reads challenges from one text.
 pub fn read_text(alloc: Global, text: &[u8]) -> Result<ItemList, GrammarError>
-    ensures spelled { IfOk result (λ items. SpellsChallenges text.now items) }
-    ensures only { IfOk result (λ items. (other : List Item) → SpellsChallenges text.now other → other ≡ items) }
-    ensures single { IfOk result (λ items. HaveSingleNames items) }
-    ensures refused { IfErr result (λ e. Refuses Grammar.Challenges text.now e) }
+    ensures { AnswersChallenges text.now result }
 {
     let x = read_single(alloc, Grammar::Challenges, text)?;
     let Grouped { groups, .. } = x;
@@ -46,10 +37,7 @@ pub fn read_text(alloc: Global, text: &[u8]) -> Result<ItemList, GrammarError>
 /// Reads credentials, as of `Authorization` (RFC 9110 section 11.6.2), which are one item. Time
 /// and length are as for `read_challenges`.
 pub fn read_credentials(alloc: Global, text: &[u8]) -> Result<Item, GrammarError>
-    ensures spelled { IfOk result (λ item. SpellsCredentials text.now item) }
-    ensures only { IfOk result (λ item. (other : Item) → SpellsCredentials text.now other → other ≡ item) }
-    ensures single { IfOk result (λ item. has_repeat (params_of item.rest) ≡ false) }
-    ensures refused { IfErr result (λ e. Refuses Grammar.Credentials text.now e) }
+    ensures { AnswersCredentials text.now result }
 {
     let x = read_single(alloc, Grammar::Credentials, text)?;
     let Grouped { groups, .. } = x;
@@ -63,10 +51,7 @@ pub fn read_credentials(alloc: Global, text: &[u8]) -> Result<Item, GrammarError
 /// Reads parameters alone, as of the field lines of `Authentication-Info` (RFC 9110 section
 /// 11.6.3). Lines, time and length are as for `read_challenges`.
 pub fn read_params(alloc: Global, lines: &OctetsList) -> Result<ParamList, GrammarError>
-    ensures spelled { IfOk result (λ params. SpellsParams (join_with_byte 44 lines.now) params) }
-    ensures only { IfOk result (λ params. (other : List Param) → SpellsParams (join_with_byte 44 lines.now) other → other ≡ params) }
-    ensures single { IfOk result (λ params. has_repeat params ≡ false) }
-    ensures refused { IfErr result (λ e. Refuses Grammar.Params (join_with_byte 44 lines.now) e) }
+    ensures { AnswersParams (join_with_byte 44 lines.now) result }
 {
     let text = joined(alloc, lines)?;
     let x = read_single(alloc, Grammar::Params, text.bytes())?;
