@@ -1,5 +1,5 @@
 //! The spaces of a site.
-ghost use Rattle.std.specs.Prelude.{◌≡◌, ◌≢◌, ℕ, List, [], ◌∷◌, IfOk, IsErrOf, true, option_copied};
+ghost use Rattle.std.specs.Prelude.{◌≡◌, ◌≢◌, ℕ, List, [], ◌∷◌, IfOk, IfSome, IfNone, true, option_copied};
 ghost use Rattle.auth_grammar.specs.Plain.{is_plain_name};
 ghost use Rattle.spaces_map.specs.Spaces.{space_of};
 ghost use Rattle.spaces_map.specs.Texts.{whole_space, whole_space_text, sha256_offer};
@@ -45,7 +45,10 @@ impl Model for Spaces {
 
     ghost view = { λ s. s.whole ∷ [] };
 
-    ghost invariant = { λ s. s.whole.prefix ≡ 47 ∷ [] };
+    ghost use Rattle.std.specs.Prelude.{true};
+    ghost use Rattle.auth_grammar.specs.Plain.{is_plain_name};
+
+    ghost invariant = { λ s. (s.whole.prefix ≡ 47 ∷ []) × (is_plain_name s.whole.realm ≡ true) };
 }
 
 /// What stands before the realm.
@@ -82,14 +85,13 @@ impl Spaces {
 
     /// The space of a path: that with the longest prefix that holds it.
     pub fn space_of(&self, path: &[u8]) -> Option<&Space>
-        ensures { option_copied result ≡ space_of path.now self.now }
+        ensures space { option_copied result ≡ space_of path.now self.now }
+        ensures realm { IfSome result (λ space. is_plain_name space.now.realm ≡ true) }
     {
         let _ = path;
         Some(&self.whole)
     }
 }
-
-ghost use Rattle.std.specs.Prelude.{IfSome, IfNone};
 
 /// The realm in a text of the form that is built.
 

@@ -10,9 +10,10 @@ returns-in_default-before-clause-none c =
     λ realm plain. no_suffix c.args.text.now _ c.in-Some.rest.now before_realm_is c.in-Some.ensures.some c.in_default-before.ensures.none realm
 
 pub returns-then-is_plain_name-clause-some : goal.returns-then-is_plain_name-clause-some
-returns-then-is_plain_name-clause-some c =
-    (sym c.is_plain_name.ensures ∙ c.if-is_plain_name.true,
-     reads c.args.text.now _ c.in-Some.rest.now c.in-Some-before.realm.now before_realm_is c.in-Some.ensures.some c.in-Some-before.ensures.some)
+returns-then-is_plain_name-clause-some c = (
+  sym c.is_plain_name.ensures ∙ c.if-is_plain_name.true,
+  reads c.args.text.now _ c.in-Some.rest.now c.in-Some-before.realm.now before_realm_is c.in-Some.ensures.some c.in-Some-before.ensures.some,
+)
 
 pub returns-else-is_plain_name-clause-none : goal.returns-else-is_plain_name-clause-none
 returns-else-is_plain_name-clause-none c =

@@ -1,0 +1,2 @@
+pub mod Realms
+pub mod Few

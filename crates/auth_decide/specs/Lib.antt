@@ -1,0 +1,8 @@
+pub mod Paths
+pub mod Readings
+pub mod Courses
+pub mod Challenges
+pub mod Infos
+pub mod Asks
+pub mod Asking
+pub mod Decisions
