@@ -13,11 +13,10 @@ use crate::valid::is_token;
 use std::alloc::Global;
 
 /// Writes items in their one text: joined with `, `, and each value bare where it may be and is a
-/// token, else in quotes.
+/// token, else in quotes. Of valid items (`Item::valid`) the text spells them again.
 pub fn write_items(alloc: Global, items: &ItemList, quoting: Quoting) -> Result<Octets, OutOfMemory>
-    requires { IsTrue (list_all is_valid items.now) }
     ensures text { IfOk result (λ text. text ≡ items_text quoting items.now) }
-    ensures spelled { IfOk result (λ text. SpellsChallenges text items.now) }
+    ensures spelled { IfOk result (λ text. IsTrue (list_all is_valid items.now) → SpellsChallenges text items.now) }
 {
     let mut out = Octets::new(alloc);
     for (i, item) in items.as_slice().iter().enumerate() {
@@ -33,9 +32,8 @@ pub fn write_params(
     params: &ParamList,
     quoting: Quoting,
 ) -> Result<Octets, OutOfMemory>
-    requires { IsTrue (are_valid_params params.now) }
     ensures text { IfOk result (λ text. text ≡ params_text quoting params.now) }
-    ensures spelled { IfOk result (λ text. SpellsParams text params.now) }
+    ensures spelled { IfOk result (λ text. IsTrue (are_valid_params params.now) → SpellsParams text params.now) }
 {
     let mut out = Octets::new(alloc);
     push_params(&mut out, params.as_slice(), quoting)?;

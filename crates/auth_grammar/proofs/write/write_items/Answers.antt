@@ -18,4 +18,4 @@ returns-clause-spelled c =
     let e : c.loop-i.i ≡ length c.as_slice-item-items.result.now = omega arith in
     let text : c.loop-i.out ≡ items_text c.args.quoting c.args.items.now =
     c.loop-i.invariant ∙ ap (items_text c.args.quoting) (ap (λ (n : ℕ). take n c.as_slice-item-items.result.now) e ∙ take-length c.as_slice-item-items.result.now ∙ c.as_slice-item-items.ensures) in
-    subst (λ (t : List ℕ). SpellsChallenges t c.args.items.now) (sym text) (challenges_written c.args.quoting c.args.items.now c.requires)
+    λ valid. subst (λ (t : List ℕ). SpellsChallenges t c.args.items.now) (sym text) (challenges_written c.args.quoting c.args.items.now valid)

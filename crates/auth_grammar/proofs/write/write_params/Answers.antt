@@ -8,4 +8,4 @@ pub returns-clause-spelled : goal.returns-clause-spelled
 returns-clause-spelled c =
     let text : c.push_params.new.out ≡ params_text c.args.quoting c.args.params.now =
     c.in_ok-push_params.ensures ∙ ap (λ (t : List ℕ). t ++ params_text c.args.quoting c.as_slice.result.now) c.new-out.ensures ∙ ap (params_text c.args.quoting) c.as_slice.ensures in
-    subst (λ (t : List ℕ). SpellsParams t c.args.params.now) (sym text) (params_spelled c.args.quoting c.args.params.now c.requires)
+    λ valid. subst (λ (t : List ℕ). SpellsParams t c.args.params.now) (sym text) (params_spelled c.args.quoting c.args.params.now valid)
