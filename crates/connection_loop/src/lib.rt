@@ -15,3 +15,6 @@ mod serving;
 pub use driving::drive;
 pub use responder::{Lack, RespondError, Responder, Response};
 pub use served::{End, ServeError, Served};
+
+#[cfg(test)]
+mod tests;

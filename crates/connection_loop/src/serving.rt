@@ -105,8 +105,8 @@ fn refuse<L: Link, C: Clock>(
     ensures write_later { L.write_faults link.old ≤ L.write_faults link.new }
     ensures write_fault { result ≡ Err ServeError.WriteFault → Rose (L.write_faults link.old) (L.write_faults link.new) }
 {
-    let moment = clock.now();
-    let text = refusal_text(alloc, status, moment)?;
+    let shown = clock.now();
+    let text = refusal_text(alloc, status, shown)?;
     write_all(link, text.bytes())
 }
 
