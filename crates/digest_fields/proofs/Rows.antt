@@ -1,8 +1,10 @@
 -- Demands that a value meets.
 use Rattle.std.proofs.Common.{◌≡◌, ℕ, ◌<◌, ◌≤◌, true, false, List, length, Option, Some, refl, ap, ◌∙◌, arith}
-use Rattle.std.specs.Prelude.{Result, Ok, Err, codes, ◌==◌, not, ◌||◌, Bool, IsTrue, unwrap_or, if◌then◌else◌}
+use Rattle.std.specs.Prelude.{Result, Ok, Err, codes, ◌==◌, not, ◌&&◌, ◌||◌, Bool, IsTrue, nat_le, unwrap_or, if◌then◌else◌}
+use Rattle.std.specs.List.{list_all}
 use Rattle.std.specs.Option.{ok_or}
-use Rattle.std.proofs.lemmas.Bool.{and_parts, cond-true, cond-false, false≢true, le-ltb, ne_eqb, not-true, not_from_true}
+use Rattle.auth_grammar.specs.Plain.{is_plain_byte}
+use Rattle.std.proofs.lemmas.Bool.{and_parts, cond-true, cond-false, false≢true, le-ltb, leb-true, ne_eqb, not-true, not_from_true}
 use Rattle.auth_grammar.specs.declared.items.Param.{Param}
 use Rattle.auth_hash.specs.declared.algorithm.Algorithm.{Algorithm}
 use Rattle.auth_hash.specs.declared.algorithm.Algorithm.TheVariants.{Md5, Sha256, Sha512t256}
@@ -123,7 +125,10 @@ nc_of-ok params text there form = bind-ok _ text _ (required-ok field.Nc params 
 -- a name
 pub name_from-ok : (name : FieldName) (text : List ℕ) → IsName text → name_from name text ≡ Ok text
 unfolding name_from
-name_from-ok name text form = bind-ok _ text _ (at_most-ok 64 name text form.short) ∙ cond-true _ _ _ form.form
+name_from-ok name text form =
+    let parts = and_parts (nat_le 1 (length text) && nat_le (length text) 64) (list_all is_plain_byte text) form in
+    let bounds = and_parts (nat_le 1 (length text)) (nat_le (length text) 64) parts.0 in
+    bind-ok _ text _ (at_most-ok 64 name text (leb-true (length text) 64 bounds.1)) ∙ cond-true _ _ _ form
 
 -- the target that was asked for
 pub uri_of-ok : (params : List Param) (uri : List ℕ) → given field.Uri params ≡ Some uri → 0 < length uri → uri_of params ≡ Ok uri

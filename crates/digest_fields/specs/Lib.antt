@@ -2,6 +2,7 @@ pub mod Challenge
 pub mod ChallengeFields
 pub mod Credentials
 pub mod CredentialsFields
+pub mod Extended
 pub mod Field
 pub mod Info
 pub mod InfoFields

@@ -1,15 +1,12 @@
 -- Realms (RFC 9110 section 11.5).
-use Rattle.std.specs.Prelude.{ℕ, ◌≤◌, List, length, IsTrue, Result, Ok, Err, Bool, ◌&&◌, nat_le, if◌then◌else◌}
+use Rattle.std.specs.Prelude.{ℕ, ◌≤◌, List, length, IsTrue, Result, Ok, Err, if◌then◌else◌}
 use Rattle.std.specs.List.{list_all}
 use Rattle.auth_grammar.specs.declared.items.Param.{Param}
+pub use Rattle.auth_grammar.specs.Plain.{is_printable}
 use Rattle.digest_fields.specs.declared.field.FieldName.TheVariants as field
 use Rattle.digest_fields.specs.declared.field.FieldError.{FieldError}
 use Rattle.digest_fields.specs.declared.field.FieldError.TheVariants.{BadValue}
 use Rattle.digest_fields.specs.Field.{at_most, required, ◌>>=◌}
-
--- whether a byte is a space or a visible character of ASCII
-unfoldable pub is_printable : ℕ → Bool
-is_printable byte = nat_le 32 byte && nat_le byte 126
 
 -- what is demanded of a realm
 pub record IsRealm (realm : List ℕ) : Type 0 where

@@ -4,6 +4,7 @@
 
 mod challenge;
 mod credentials;
+mod extended;
 mod field;
 mod info;
 mod kind;

@@ -1,12 +1,11 @@
 //! Names of users.
-ghost use Rattle.std.specs.Prelude.{◌≡◌, ◌⊎◌, ◌==◌, ◌<◌, IfOk, IfSome, MatchResult, OnOk, length, option_copied, option_map, position};
-ghost use Rattle.std.specs.List.{list_all};
+ghost use Rattle.std.specs.Prelude.{◌≡◌, ◌⊎◌, IfOk, MatchResult, OnOk};
 ghost use Rattle.percent_encoding.specs.Percent.{percent_decode};
-ghost use Rattle.digest_fields.specs.Name.{IsName, is_name_byte, is_token_byte, parts_at_quote, escaped_name, name_from, name_of};
+ghost use Rattle.digest_fields.specs.Name.{IsName, name_from, name_of};
 
+use crate::extended::escaped_name;
 use crate::field::{FieldError, FieldName, at_most, given};
-use crate::realm::is_printable;
-use auth_grammar::{Octets, OutOfMemory, Param, same_name};
+use auth_grammar::{Octets, OutOfMemory, Param, is_plain_name};
 use std::alloc::Global;
 
 /// How many bytes a name may have.
@@ -60,67 +59,10 @@ fn check_name(field: FieldName, name: &[u8]) -> Result<(), FieldError>
     ensures form { OnOk result (IsName name.now) }
 {
     at_most(NAME_LIMIT, field, name)?;
-    if name.is_empty() || !are_name_bytes(name) {
+    if !is_plain_name(name) {
         return Err(FieldError::BadValue { name: field });
     }
     Ok(())
-}
-
-fn are_name_bytes(text: &[u8]) -> bool
-    ensures { result ≡ list_all is_name_byte text.now }
-{
-    text.iter().all(|&byte| is_name_byte(byte))
-}
-
-#[tactic(auto, unfolding(crate::specs::Name::is_name_byte))]
-fn is_name_byte(byte: u8) -> bool
-    ensures { result ≡ is_name_byte byte }
-{
-    is_printable(byte) && byte != b':'
-}
-
-/// The escaped name of `UTF-8'language'name` (RFC 8187 section 3.2.1).
-#[tactic(auto, unfolding(crate::specs::Name::escaped_name))]
-fn escaped_name(text: &[u8]) -> Option<&[u8]>
-    ensures { option_copied result ≡ escaped_name text.now }
-{
-    let (charset, rest) = parts_at_quote(text)?;
-    let (language, name) = parts_at_quote(rest)?;
-    if same_name(charset, b"UTF-8") && are_token_bytes(language) {
-        Some(name)
-    } else {
-        None
-    }
-}
-
-/// What stands before and behind the first apostrophe.
-#[tactic(auto, unfolding(crate::specs::Name::parts_at_quote))]
-fn parts_at_quote(text: &[u8]) -> Option<(&[u8], &[u8])>
-    ensures { option_map (λ parts. (parts.0.now, parts.1.now)) result ≡ parts_at_quote text.now }
-{
-    let at = quote_at(text)?;
-    Some((&text[..at], &text[at + 1..]))
-}
-
-/// Where the first apostrophe stands.
-fn quote_at(text: &[u8]) -> Option<usize>
-    ensures place { result ≡ position (λ byte. byte == 39) text.now }
-    ensures within { IfSome result (λ at. at < length text.now) }
-{
-    text.iter().position(|&byte| byte == b'\'')
-}
-
-fn are_token_bytes(text: &[u8]) -> bool
-    ensures { result ≡ list_all is_token_byte text.now }
-{
-    text.iter().all(|&byte| is_token_byte(byte))
-}
-
-#[tactic(auto, unfolding(crate::specs::Name::is_token_byte))]
-fn is_token_byte(byte: u8) -> bool
-    ensures { result ≡ is_token_byte byte }
-{
-    byte.is_ascii_alphanumeric() || b"!#$%&'*+-.^_`|~".contains(&byte)
 }
 
 /// The bytes that an escaped text stands for.

@@ -1,10 +1,11 @@
 //! Realms.
 ghost use Rattle.std.specs.Prelude.{◌≡◌, IfOk, MatchResult};
 ghost use Rattle.std.specs.List.{list_all};
-ghost use Rattle.digest_fields.specs.Realm.{IsRealm, is_printable, realm_of};
+ghost use Rattle.auth_grammar.specs.Plain.{is_printable};
+ghost use Rattle.digest_fields.specs.Realm.{IsRealm, realm_of};
 
 use crate::field::{FieldError, FieldName, at_most, required};
-use auth_grammar::Param;
+use auth_grammar::{Param, is_printable};
 
 /// How many bytes a realm may have.
 const REALM_LIMIT: u32 = 64;
@@ -31,12 +32,4 @@ fn are_printable(text: &[u8]) -> bool
     ensures { result ≡ list_all is_printable text.now }
 {
     text.iter().all(|&byte| is_printable(byte))
-}
-
-/// Whether a byte is a space or a visible character of ASCII.
-#[tactic(auto, unfolding(crate::specs::Realm::is_printable))]
-pub(crate) fn is_printable(byte: u8) -> bool
-    ensures { result ≡ is_printable byte }
-{
-    0x20 <= byte && byte <= 0x7e
 }
