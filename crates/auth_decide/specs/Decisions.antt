@@ -1,8 +1,8 @@
 -- What a decision is seen as.
-use Rattle.std.specs.Prelude.{ℕ, List, Option, Some, None}
-use Rattle.nonce_shard.specs.Replies.{CanAnswer}
+use Rattle.std.specs.Prelude.{ℕ, ◌<◌, ◌≤◌, List, length, Option, Some, None}
+use Rattle.nonce_shard.specs.Replies.{CanAnswer, Fits}
 use Rattle.nonce_shard.specs.declared.calls.Reply.{Reply}
-use Rattle.auth_decide.specs.Asks.{Question, place_of}
+use Rattle.auth_decide.specs.Asks.{Question, asked, place_of}
 use Rattle.auth_decide.specs.Courses.{course_of}
 use Rattle.auth_decide.specs.declared.site.Site.{Site}
 use Rattle.auth_decide.specs.declared.verdict.Answer.{Answer}
@@ -36,6 +36,16 @@ abbrev pub IsOutside : Ask → Type 0
 IsOutside Draw = Unit {0}
 IsOutside (Table shard call) = Unit {0}
 IsOutside (Verdict verdict) = ⊥
+
+-- a call to one of so many shards, which fits the table
+abbrev pub FitsTable : ℕ → Ask → Type 0
+FitsTable shards Draw = Unit {0}
+FitsTable shards (Table shard call) = (shard < shards) × Fits call.what
+FitsTable shards (Verdict verdict) = Unit {0}
+
+-- An ask to the outside comes after three answers at most.
+abbrev pub AsksFew : Type 0
+AsksFew = (q : Question) (answers : List Answer) → IsOutside (asked q answers) → length answers ≤ 3
 
 -- the course in the space of the request, where there is one
 abbrev pub course_in : Option Space → Request → Site → Reading → Course

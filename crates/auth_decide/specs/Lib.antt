@@ -4,5 +4,5 @@ pub mod Courses
 pub mod Challenges
 pub mod Infos
 pub mod Asks
-pub mod Asking
 pub mod Decisions
+pub mod Asking

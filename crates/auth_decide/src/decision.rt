@@ -82,7 +82,7 @@ fn course_for(
     }
 }
 
-ghost use Rattle.auth_decide.specs.Decisions.{course_for, IsDraw, IsCallFor, IsOutside};
+ghost use Rattle.auth_decide.specs.Decisions.{course_for, FitsTable, IsDraw, IsCallFor, AsksFew};
 
 impl<'a> Decision<'a> {
     /// Reads what the request says of itself. `moment` is in seconds since 1970, `shards` the number of the table's
@@ -123,6 +123,7 @@ impl<'a> Decision<'a> {
     #[tactic(auto, unfolding(crate::specs::Asks::asked))]
     pub fn next(&self, alloc: Global) -> Result<Ask, OutOfMemory>
         ensures asked { IfOk result (λ ask. ask ≡ asked self.now.question self.now.answers) }
+        ensures fits { IfOk result (λ ask. FitsTable self.now.question.shards ask) }
     {
         let Some(space) = place_of(self.role, self.request, self.site) else {
             return Ok(open(alloc));
@@ -158,3 +159,8 @@ impl<'a> Decision<'a> {
         self.answers.push(Answer::Replied(reply));
     }
 }
+
+/// A request asks at most four times: one draw and three calls of the table.
+pub fn asks_few()
+    ensures { AsksFew }
+{}

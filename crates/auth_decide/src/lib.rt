@@ -12,7 +12,7 @@ mod site;
 mod steps;
 mod verdict;
 
-pub use decision::Decision;
+pub use decision::{Decision, asks_few};
 pub use paths::{correspond, path_of, without_authority};
 pub use readings::credentials_field;
 pub use site::Site;

@@ -1,6 +1,7 @@
 //! The steps of a decision, each by the answers that are left for it.
 ghost use Rattle.std.specs.Prelude.{◌≡◌, ◌<◌, ◌≤◌, ◌∷◌, [], ℕ, List, IfOk, length};
-ghost use Rattle.auth_decide.specs.Asking.{question_of, nonced};
+ghost use Rattle.auth_decide.specs.Asking.{question_of, nonced, NoncedFits, HoldsWithin};
+ghost use Rattle.auth_decide.specs.Decisions.{FitsTable};
 ghost use Rattle.auth_decide.specs.Asks.{with_nonce, called, issued, issue, shard_for, nonce_text, astray, challenge, bare, used, use_nonce, judged, peeked, within, tried, on_course};
 ghost use Rattle.auth_decide.specs.declared.verdict.Ask.{Ask as AskValue};
 ghost use Rattle.auth_decide.specs.declared.verdict.Verdict.TheVariants.{Open as OpenVerdict};
@@ -25,7 +26,8 @@ fn astray(alloc: Global) -> Ask
 
 /// A new nonce, for which random words are drawn.
 fn new_nonce(asking: &Asking<'_>, answers: &[Answer]) -> Nonced
-    ensures { (next : List ℕ → AskValue) → with_nonce (question_of asking.now) asking.now.space.now answers.now next ≡ nonced result next }
+    ensures asked { (next : List ℕ → AskValue) → with_nonce (question_of asking.now) asking.now.space.now answers.now next ≡ nonced result next }
+    ensures fits { NoncedFits asking.now.shards result }
 {
     match answers {
         [] => Nonced::Asks(Ask::Draw),
@@ -36,8 +38,9 @@ fn new_nonce(asking: &Asking<'_>, answers: &[Answer]) -> Nonced
 
 /// A new nonce with these random words. The first of them chooses the shard.
 fn issued_nonce(asking: &Asking<'_>, words: [u8; 16], answers: &[Answer]) -> Nonced
-    ensures { (next : List ℕ → AskValue) → called (shard_for (question_of asking.now) words) (issue (question_of asking.now) asking.now.space.now words) answers.now
+    ensures asked { (next : List ℕ → AskValue) → called (shard_for (question_of asking.now) words) (issue (question_of asking.now) asking.now.space.now words) answers.now
         (λ reply _. issued reply (λ serial. next (nonce_text (shard_for (question_of asking.now) words) words serial))) ≡ nonced result next }
+    ensures fits { NoncedFits asking.now.shards result }
 {
     let shard = u16::from(words[0]) % asking.shards;
     match answers {
@@ -72,7 +75,8 @@ fn challenge(
     stale: bool,
     answers: &[Answer],
 ) -> Result<Ask, OutOfMemory>
-    ensures { IfOk result (λ ask. ask ≡ challenge (question_of asking.now) asking.now.space.now stale answers.now) }
+    ensures asked { IfOk result (λ ask. ask ≡ challenge (question_of asking.now) asking.now.space.now stale answers.now) }
+    ensures fits { IfOk result (λ ask. FitsTable asking.now.shards ask) }
 {
     match new_nonce(asking, answers) {
         Nonced::Asks(ask) => Ok(ask),
@@ -86,7 +90,8 @@ fn challenge(
 
 /// A request without credentials.
 fn bare(alloc: Global, asking: &Asking<'_>, answers: &[Answer]) -> Result<Ask, OutOfMemory>
-    ensures { IfOk result (λ ask. ask ≡ bare (question_of asking.now) asking.now.space.now asking.now.space.now.mode answers.now) }
+    ensures asked { IfOk result (λ ask. ask ≡ bare (question_of asking.now) asking.now.space.now asking.now.space.now.mode answers.now) }
+    ensures fits { IfOk result (λ ask. FitsTable asking.now.shards ask) }
 {
     match asking.space.mode {
         Mode::Required => challenge(alloc, asking, false, answers),
@@ -120,7 +125,8 @@ fn used(
     reply: &Reply,
     answers: &[Answer],
 ) -> Result<Ask, OutOfMemory>
-    ensures { IfOk result (λ ask. ask ≡ used (question_of asking.now) asking.now.space.now candidate.now prime.now reply.now answers.now) }
+    ensures asked { IfOk result (λ ask. ask ≡ used (question_of asking.now) asking.now.space.now candidate.now prime.now reply.now answers.now) }
+    ensures fits { IfOk result (λ ask. FitsTable asking.now.shards ask) }
 {
     match reply {
         Reply::Fresh => Ok(Ask::Verdict(Verdict::Admit {
@@ -144,8 +150,10 @@ fn use_nonce(
     named: Option<TableName>,
     answers: &[Answer],
 ) -> Result<Ask, OutOfMemory>
-    requires { length prime.now ≤ 128 }
-    ensures { IfOk result (λ ask. ask ≡ use_nonce (question_of asking.now) asking.now.space.now candidate.now prime.now named answers.now) }
+    requires prime { length prime.now ≤ 128 }
+    requires held { HoldsWithin asking.now.shards named }
+    ensures asked { IfOk result (λ ask. ask ≡ use_nonce (question_of asking.now) asking.now.space.now candidate.now prime.now named answers.now) }
+    ensures fits { IfOk result (λ ask. FitsTable asking.now.shards ask) }
 {
     let Some(nonce) = named else {
         return challenge(alloc, asking, true, answers);
@@ -180,8 +188,10 @@ fn judged(
     named: Option<TableName>,
     answers: &[Answer],
 ) -> Result<Ask, OutOfMemory>
-    requires { length prime.now ≤ 128 }
-    ensures { IfOk result (λ ask. ask ≡ judged (question_of asking.now) asking.now.space.now candidate.now prime.now named answers.now) }
+    requires prime { length prime.now ≤ 128 }
+    requires held { HoldsWithin asking.now.shards named }
+    ensures asked { IfOk result (λ ask. ask ≡ judged (question_of asking.now) asking.now.space.now candidate.now prime.now named answers.now) }
+    ensures fits { IfOk result (λ ask. FitsTable asking.now.shards ask) }
 {
     if is_right(asking.request, candidate, prime) {
         use_nonce(alloc, asking, candidate, prime, named, answers)
@@ -199,7 +209,9 @@ fn peeked(
     reply: &Reply,
     answers: &[Answer],
 ) -> Result<Ask, OutOfMemory>
-    ensures { IfOk result (λ ask. ask ≡ peeked (question_of asking.now) asking.now.space.now candidate.now nonce reply.now answers.now) }
+    requires { nonce.shard < asking.now.shards }
+    ensures asked { IfOk result (λ ask. ask ≡ peeked (question_of asking.now) asking.now.space.now candidate.now nonce reply.now answers.now) }
+    ensures fits { IfOk result (λ ask. FitsTable asking.now.shards ask) }
 {
     let own = candidate.cnonce();
     match reply {
@@ -221,7 +233,8 @@ fn peeked(
 
 /// A name that is one of the table's shards holds.
 fn within(shards: u16, named: Option<TableName>) -> Option<TableName>
-    ensures { result ≡ within shards named }
+    ensures value { result ≡ within shards named }
+    ensures held { HoldsWithin shards result }
 {
     let nonce = named?;
     if nonce.shard < shards {
@@ -238,7 +251,8 @@ fn tried(
     candidate: &Candidate,
     answers: &[Answer],
 ) -> Result<Ask, OutOfMemory>
-    ensures { IfOk result (λ ask. ask ≡ tried (question_of asking.now) asking.now.space.now candidate.now (within asking.now.shards asking.now.reading.now.named) answers.now) }
+    ensures asked { IfOk result (λ ask. ask ≡ tried (question_of asking.now) asking.now.space.now candidate.now (within asking.now.shards asking.now.reading.now.named) answers.now) }
+    ensures fits { IfOk result (λ ask. FitsTable asking.now.shards ask) }
 {
     let Some(nonce) = within(asking.shards, asking.reading.named) else {
         return judged(alloc, asking, candidate, candidate.cnonce(), None, answers);
@@ -278,7 +292,8 @@ pub(crate) fn on_course(
     answers: &[Answer],
     course: &Course,
 ) -> Result<Ask, OutOfMemory>
-    ensures { IfOk result (λ ask. ask ≡ on_course (question_of asking.now) asking.now.space.now answers.now course.now) }
+    ensures asked { IfOk result (λ ask. ask ≡ on_course (question_of asking.now) asking.now.space.now answers.now course.now) }
+    ensures fits { IfOk result (λ ask. FitsTable asking.now.shards ask) }
 {
     match course {
         Course::Bare => bare(alloc, asking, answers),
