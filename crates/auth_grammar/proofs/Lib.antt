@@ -12,3 +12,4 @@ pub mod FeedLaws
 pub mod ReadLaws
 pub mod Written
 pub mod RoundTrip
+pub mod Validity

@@ -1,4 +1,5 @@
-use Rattle.std.proofs.Common.{◌≡◌, ℕ, false, List, [], ◌∷◌, ◌++◌, Ok, refl, ap, sym, ◌∙◌, subst, map}
+use Rattle.std.proofs.Common.{IsTrue, ◌≡◌, ℕ, false, true, List, [], ◌∷◌, ◌++◌, Ok, refl, ap, sym, ◌∙◌, subst, map}
+use Rattle.std.specs.List.{list_all}
 use Rattle.std.proofs.lemmas.List.Elements.{All-head}
 use Rattle.auth_grammar.specs.declared.grammar.Grammar.TheVariants.{Challenges, Credentials, Params}
 use Rattle.auth_grammar.specs.declared.groups.Grouped.{Grouped}
@@ -9,6 +10,9 @@ use Rattle.auth_grammar.specs.Items.{SpellsOnly, item_of, unplaced}
 use Rattle.auth_grammar.specs.Names.{has_repeat, params_of}
 use Rattle.auth_grammar.specs.Repeats.{AreSingle, HaveSingleNames, lists_in, params_in}
 use Rattle.auth_grammar.specs.declared.groups.Placed.{Placed}
+use Rattle.auth_grammar.specs.Valid.{is_valid, are_valid_params}
+use Rattle.auth_grammar.proofs.FormReadings.{left_of}
+use Rattle.auth_grammar.proofs.Validity.{spelled_items_valid, spelled_params_valid}
 use Rattle.auth_grammar.proofs.RepeatLaws.{single_items}
 
 -- challenges that a text spells alone
@@ -17,6 +21,7 @@ answers_challenges text x items s a e = record {
   spelled = (x, s.0, sym e);
   only = λ other h. sym h.2 ∙ ap (λ (y : Grouped). map item_of y.groups) (s.1 h.0 h.1) ∙ sym e;
   single = single_items x a items e;
+  valid = subst (λ (y : List Item). IsTrue (list_all is_valid y)) (sym e) (spelled_items_valid Challenges text x s.0 a);
   refused = tt;
 }
 
@@ -26,6 +31,7 @@ answers_params text x params s a e = record {
   spelled = (x, s.0, sym e);
   only = λ other h. sym h.2 ∙ ap (λ (y : Grouped). unplaced y.params) (s.1 h.0 h.1) ∙ sym e;
   single = ap has_repeat e ∙ All-head (λ (p : List Placed). has_repeat (unplaced p) ≡ false) x.params (map params_in x.groups) a;
+  valid = subst (λ (y : List Param). IsTrue (are_valid_params y)) (sym e) (spelled_params_valid Params text x s.0 a);
   refused = tt;
 }
 
@@ -45,6 +51,7 @@ answers_credentials text x items before item s a e h =
       spelled = (x, s.0, one);
       only = λ other k. same other (sym k.2 ∙ ap (λ (y : Grouped). map item_of y.groups) (s.1 k.0 k.1) ∙ one);
       single = All-head (λ (y : Item). has_repeat (params_of y.rest) ≡ false) item [] (subst (λ (y : List Item). HaveSingleNames y) one (single_items x a (map item_of x.groups) refl));
+      valid = left_of (is_valid item) true (subst (λ (y : List Item). IsTrue (list_all is_valid y)) one (spelled_items_valid Credentials text x s.0 a));
       refused = tt;
     }
   where

@@ -28,6 +28,7 @@ pub record AnswersChallenges (text : List ℕ) (result : Result (List Item) Gram
   pub spelled : IfOk result (λ items. SpellsChallenges text items)
   pub only : IfOk result (λ items. (other : List Item) → SpellsChallenges text other → other ≡ items)
   pub single : IfOk result (λ items. HaveSingleNames items)
+  pub valid : IfOk result (λ items. IsTrue (list_all is_valid items))
   pub refused : IfErr result (λ e. Refuses Of.Challenges text e)
 
 -- the answer to a text of credentials
@@ -35,6 +36,7 @@ pub record AnswersCredentials (text : List ℕ) (result : Result Item GrammarErr
   pub spelled : IfOk result (λ item. SpellsCredentials text item)
   pub only : IfOk result (λ item. (other : Item) → SpellsCredentials text other → other ≡ item)
   pub single : IfOk result (λ item. has_repeat (params_of item.rest) ≡ false)
+  pub valid : IfOk result (λ item. IsTrue (is_valid item))
   pub refused : IfErr result (λ e. Refuses Of.Credentials text e)
 
 -- the answer to a text of parameters
@@ -42,6 +44,7 @@ pub record AnswersParams (text : List ℕ) (result : Result (List Param) Grammar
   pub spelled : IfOk result (λ params. SpellsParams text params)
   pub only : IfOk result (λ params. (other : List Param) → SpellsParams text other → other ≡ params)
   pub single : IfOk result (λ params. has_repeat params ≡ false)
+  pub valid : IfOk result (λ params. IsTrue (are_valid_params params))
   pub refused : IfErr result (λ e. Refuses Of.Params text e)
 
 -- that value, or want of memory

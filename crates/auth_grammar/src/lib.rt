@@ -21,6 +21,8 @@ mod reader;
 mod repeats;
 mod round_trip;
 mod sequence;
+#[cfg(test)]
+mod tests;
 mod turns;
 mod valid;
 mod walker;
@@ -37,6 +39,6 @@ pub use plain::{NAME_LIMIT, is_plain_name, is_printable};
 pub use read::{read_challenges, read_credentials, read_params};
 pub use round_trip::reads_what_is_written;
 pub use sequence::Sequence;
-pub use valid::{is_quotable, is_token, is_token68, valid_params};
+pub use valid::{is_quotable, is_token, is_token68, valid_items, valid_params};
 pub use walker::reach;
 pub use write::{write_items, write_params};

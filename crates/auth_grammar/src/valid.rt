@@ -4,7 +4,7 @@ ghost use Rattle.std.specs.List.{list_all};
 ghost use Rattle.auth_grammar.specs.Kinds.{is_token, kind_of};
 ghost use Rattle.auth_grammar.specs.Valid.{are_valid_params, is_quotable_text, is_token68_text, is_token_text, is_valid, is_valid_param, is_valid_rest, token68_len};
 
-use crate::items::{Item, Param, ParamList, Rest};
+use crate::items::{Item, ItemList, Param, ParamList, Rest};
 use crate::kinds::kind_at;
 use crate::names::has_repeat;
 
@@ -30,6 +30,13 @@ impl Rest {
             Rest::Params(params) => !params.is_empty() && valid_params(params),
         }
     }
+}
+
+/// Whether all items can be written.
+pub fn valid_items(items: &ItemList) -> bool
+    ensures { result ≡ list_all is_valid items.now }
+{
+    items.as_slice().iter().all(|item| item.valid())
 }
 
 /// Whether parameters can be written: names are tokens, none comes twice, and values have only
