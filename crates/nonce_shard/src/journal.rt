@@ -39,8 +39,8 @@ impl Model for JournalTable {
 }
 
 impl JournalTable {
-    /// An empty table that takes this number of calls. It takes the memory for all of them, about
-    /// 1,100 bytes each.
+    /// An empty table that takes this number of calls. It takes the memory for all of them, at
+    /// most 1,120 bytes each.
     pub fn open(alloc: Global, calls: u32, sizes: &Sizes) -> Result<JournalTable, OutOfMemory>
         requires { AreValid sizes.now }
         ensures { IfOk result (λ j. j ≡ record { sizes = sizes.now; limit = calls; calls = [] }) }
