@@ -1,5 +1,5 @@
-use Rattle.std.proofs.Common.{◌≡◌, [], ℕ, List, refl, sym, ap}
-use Rattle.connection_loop.specs.Machine.{Says, Move}
+use Rattle.std.proofs.Common.{[], ℕ, List, refl, sym, ap}
+use Rattle.connection_loop.specs.Machine.{Says}
 use Rattle.connection_loop.proofs.Turns.{turn-says, at_start, at_no_memory}
 use Rattle.connection_loop.proofs.tests.EchoResponder.respond.Goals as goal
 
