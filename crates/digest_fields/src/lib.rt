@@ -21,3 +21,6 @@ pub use info::DigestInfo;
 pub use kind::Kind;
 pub use name::UserName;
 pub use nc::Nc;
+
+#[cfg(test)]
+mod tests;
