@@ -1,9 +1,8 @@
 -- A decision asks few things.
-use Rattle.std.proofs.Common.{◌≡◌, ℕ, suc, ◌+◌, ◌<◌, ◌≤◌, Bool, true, false, List, [], ◌∷◌, length, Option, Some, None, arith}
+use Rattle.std.proofs.Common.{ℕ, ◌≤◌, Bool, true, false, List, [], ◌∷◌, length, Option, Some, None, arith}
 use Rattle.std.specs.Prelude.{if◌then◌else◌}
 use Rattle.nonce_shard.specs.declared.calls.Reply.{Reply}
 use Rattle.nonce_shard.specs.declared.calls.Reply.TheVariants.{Issued, Prime, Fresh, Gone, Behind, Repeated, OtherSession, Opened, Taken, Kept, Session}
-use Rattle.nonce_shard.specs.declared.calls.Call.{Call}
 use Rattle.nonce_shard.specs.declared.names.TableName.{TableName}
 use Rattle.spaces_map.specs.declared.space.Mode.{Mode}
 use Rattle.spaces_map.specs.declared.space.Mode.TheVariants as mode

@@ -1,6 +1,5 @@
 -- What a request asks, by the answers so far, and how it is decided (RFC 9110 section 11, RFC 7616 sections 3.3 to 3.5).
-use Rattle.std.specs.Prelude.{ℕ, ◌%◌, Bool, true, false, not, bytes_eq, nat_lt, if◌then◌else◌, List, [], ◌∷◌, Option, Some, None, slice_index}
-use Rattle.auth_grammar.specs.declared.items.Item.{Item}
+use Rattle.std.specs.Prelude.{ℕ, ◌%◌, Bool, true, false, bytes_eq, nat_lt, if◌then◌else◌, List, [], ◌∷◌, Option, Some, None, slice_index}
 use Rattle.auth_grammar.specs.declared.items.Role.{Role}
 use Rattle.auth_grammar.specs.declared.items.Role.TheVariants.{Origin, Proxy}
 use Rattle.arrayvec.specs.ArrayVec.{ArrayVec}
@@ -13,7 +12,6 @@ use Rattle.nonce_shard.specs.declared.calls.Call.{Call}
 use Rattle.nonce_shard.specs.declared.calls.NonceKind.TheVariants as kind
 use Rattle.nonce_shard.specs.declared.calls.Reply.{Reply}
 use Rattle.nonce_shard.specs.declared.calls.Reply.TheVariants.{Issued, Prime, Fresh, Gone, Behind, Repeated, OtherSession}
-use Rattle.nonce_shard.specs.declared.calls.What.{What}
 use Rattle.nonce_shard.specs.declared.calls.What.TheVariants.{Issue, Peek, Use}
 use Rattle.nonce_shard.specs.declared.names.NameKind.TheVariants as name
 use Rattle.nonce_shard.specs.declared.names.TableName.{TableName}

@@ -1,5 +1,5 @@
 -- What the texts of a request say.
-use Rattle.std.specs.Prelude.{◌≡◌, ◌≢◌, ℕ, Bool, true, false, List, [], ◌∷◌, Option, Some, None, Result, Ok, Err, codes, ⊤}
+use Rattle.std.specs.Prelude.{◌≡◌, ◌≢◌, ℕ, false, List, [], ◌∷◌, Option, Some, None, Result, Ok, Err, codes, ⊤}
 use Rattle.auth_grammar.specs.Names.{has_repeat, params_of}
 use Rattle.auth_grammar.specs.Answers.{Refuses}
 use Rattle.auth_grammar.specs.Items.{SpellsCredentials}

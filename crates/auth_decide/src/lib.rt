@@ -17,3 +17,6 @@ pub use paths::{correspond, path_of, without_authority};
 pub use readings::credentials_field;
 pub use site::Site;
 pub use verdict::{Answer, Ask, Candidate, Course, Field, Proof, Reading, Verdict, Why};
+
+#[cfg(test)]
+mod tests;

@@ -1,5 +1,5 @@
 -- The parts of a line are told by its first three colons.
-use Rattle.std.proofs.Common.{◌≡◌, ◌≢◌, ◌==◌, ℕ, Bool, true, false, ◌||◌, List, [], ◌∷◌, ◌++◌, refl, sym, ap, ◌∙◌, subst, true≢false, eq-eqb}
+use Rattle.std.proofs.Common.{◌≡◌, ◌≢◌, ◌==◌, ℕ, Bool, true, false, ◌||◌, List, [], ◌∷◌, ◌++◌, refl, sym, ap, ◌∙◌, true≢false, eq-eqb}
 use Rattle.std.specs.List.{list_any}
 use Rattle.cred_store.specs.Texts.{HasNoColon, line_of}
 

@@ -7,3 +7,6 @@ mod text;
 
 pub use entry::{Entry, Secret};
 pub use store::{Store, StoreError};
+
+#[cfg(test)]
+mod tests;

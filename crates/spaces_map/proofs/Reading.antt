@@ -1,5 +1,5 @@
 -- Reading the text of the one space.
-use Rattle.std.proofs.Common.{◌≡◌, ◌≢◌, ℕ, Bool, true, false, List, [], ◌∷◌, ◌++◌, sym, ap, ◌∙◌, refl, true≢false, codes}
+use Rattle.std.proofs.Common.{◌≡◌, ◌≢◌, ℕ, true, false, List, [], ◌∷◌, ◌++◌, sym, ap, ◌∙◌, refl, true≢false, codes}
 use Rattle.std.proofs.lemmas.List.{append_cancel_left, append_cancel_right}
 use Rattle.auth_grammar.specs.Plain.{is_plain_name}
 use Rattle.spaces_map.specs.Texts.{before_realm, whole_space_text}

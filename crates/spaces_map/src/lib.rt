@@ -6,3 +6,6 @@ mod spaces;
 
 pub use space::{Mode, Offer, OfferKind, OfferList, Space};
 pub use spaces::{Spaces, SpacesError};
+
+#[cfg(test)]
+mod tests;

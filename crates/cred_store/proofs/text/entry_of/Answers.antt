@@ -1,7 +1,6 @@
 use Rattle.cred_store.specs.LookUps.{algorithm_of}
-use Rattle.cred_store.specs.Texts.{kind_name}
 use Rattle.cred_store.proofs.Entries.{plain_no_colon, kind_no_colon, not_plain, no_secret}
-use Rattle.std.proofs.Common.{sym, ◌∙◌, rules}
+use Rattle.std.proofs.Common.{sym, ◌∙◌}
 use Rattle.cred_store.proofs.text.entry_of.Goals as goal
 
 pub returns-in_default-clause-none : goal.returns-in_default-clause-none

@@ -16,6 +16,9 @@ returns-in_default-2-clause-not_built c =
 
 pub returns-clause-ok : goal.returns-clause-ok
 returns-clause-ok c =
-    let found = rw c.in-Some-2.is at c.in_ok-entry.ensures.some in
-    (c.in-Some-2.entry, found.0, refl,
-     reads c.args.text.now _ c.in-Some.rest.now c.in-Some-before.line.now header_is c.in-Some.ensures.some c.in-Some-before.ensures.some c.in-Some-2.entry found.1)
+    let found = rw c.in-Some-2.is at c.in_ok-entry.ensures.some in (
+      c.in-Some-2.entry,
+      found.0,
+      refl,
+      reads c.args.text.now _ c.in-Some.rest.now c.in-Some-before.line.now header_is c.in-Some.ensures.some c.in-Some-before.ensures.some c.in-Some-2.entry found.1,
+    )
