@@ -94,7 +94,6 @@ impl Spaces {
 }
 
 /// The realm in a text of the form that is built.
-
 fn realm_in(text: &[u8]) -> Option<&[u8]>
     ensures some { IfSome result (λ realm. (is_plain_name realm.now ≡ true) × (text.now ≡ whole_space_text realm.now)) }
     ensures none { IfNone result ((realm : List ℕ) → is_plain_name realm ≡ true → text.now ≢ whole_space_text realm) }
