@@ -8,7 +8,8 @@ use Rattle.httpdate.specs.Text.{imf_fixdate}
 use Rattle.httpdate.specs.Date.{date_text, unix_secs}
 use Rattle.httpdate.proofs.CalendarLemmas.{days_from_civil_year, days_from_civil_month}
 use Rattle.http_wire.specs.Dates.{last_up_to, year_of, month_of, parts_of, date_of}
-use Rattle.http_wire.specs.Answers.{date_line, crlf}
+use Rattle.http_wire.specs.Answers.{date_line}
+use Rattle.http_wire.specs.FieldLines.{crlf}
 
 last_is : (test : ℕ → Bool) (n k : ℕ) → k ≤ n → (0 < k → test k ≡ true) → ((j : ℕ) → k < j → test j ≡ false) → last_up_to test n ≡ k
 last_is test zero k l here above = omega arith

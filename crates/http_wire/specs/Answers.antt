@@ -1,12 +1,9 @@
 -- The text of a reply.
-use Rattle.std.specs.Prelude.{ℕ, Bool, ◌||◌, List, [], ◌∷◌, ◌++◌, length, if◌then◌else◌, ◌==◌, nat_lt, codes, decimal}
+use Rattle.std.specs.Prelude.{ℕ, ◌||◌, List, [], ◌++◌, length, if◌then◌else◌, ◌==◌, nat_lt, codes, decimal}
 use Rattle.std.specs.List.{flat_map}
+use Rattle.http_wire.specs.FieldLines.{crlf, pair_line, length_line, close_line}
 use Rattle.http_wire.specs.Dates.{date_of}
-use Rattle.http_wire.specs.declared.pair.Pair.{Pair}
 use Rattle.http_wire.specs.declared.answer.Answer.{Answer}
-
-abbrev pub crlf : List ℕ
-crlf = 13 ∷ 10 ∷ []
 
 -- the interim reply that asks for a body
 abbrev pub continue_text : List ℕ
@@ -44,17 +41,9 @@ status_line status = codes "HTTP/1.1 " ++ decimal status ++ codes " " ++ phrase_
 unfoldable pub date_line : ℕ → List ℕ
 date_line moment = if nat_lt moment 253402300800 then codes "Date: " ++ date_of moment ++ crlf else []
 
--- `name: value`
-abbrev pub pair_line : Pair → List ℕ
-pair_line p = p.name ++ codes ": " ++ p.value ++ crlf
-
 -- how many bytes the body has, where the status allows one (RFC 9110 section 8.6)
-unfoldable pub length_line : ℕ → ℕ → List ℕ
-length_line status count = if status == 204 || status == 304 then [] else codes "Content-Length: " ++ decimal count ++ crlf
-
--- told where the connection closes
-unfoldable pub close_line : Bool → List ℕ
-close_line close = if close then codes "Connection: close\r\n" else []
+unfoldable pub answer_length_line : ℕ → ℕ → List ℕ
+answer_length_line status count = if status == 204 || status == 304 then [] else length_line count
 
 -- the body, which a reply to HEAD lacks
 abbrev pub body_of : Answer → List ℕ
@@ -64,4 +53,4 @@ body_of a = if a.to_head then [] else a.body
 unfoldable pub answer_text : Answer → List ℕ
 answer_text a =
     status_line a.status ++ date_line a.moment ++ flat_map pair_line a.lines
-    ++ length_line a.status (length a.body) ++ close_line a.close ++ crlf ++ body_of a
+    ++ answer_length_line a.status (length a.body) ++ close_line a.close ++ crlf ++ body_of a

@@ -11,4 +11,6 @@ pub mod RequestPhase
 pub mod RequestFeed
 pub mod RequestRuns
 pub mod Dates
+pub mod FieldLines
 pub mod Answers
+pub mod RequestTexts

@@ -1,9 +1,9 @@
 //! Replies, and how they are written (RFC 9112 section 4).
 ghost use Rattle.std.specs.Prelude.{◌≡◌, ◌++◌, ◌≤◌, length, OnOk, IfOk};
-ghost use Rattle.http_wire.specs.Answers.{continue_text, phrase_of, status_body, status_line, date_line, length_line, close_line, body_of, answer_text};
+ghost use Rattle.http_wire.specs.Answers.{continue_text, phrase_of, status_body, status_line, date_line, answer_length_line, body_of, answer_text};
 
 use crate::pair::PairList;
-use crate::text::{put, put_number, put_pairs};
+use crate::text::{put, put_close, put_length, put_number, put_pairs};
 use auth_grammar::{Octets, OutOfMemory};
 use httpdate::HttpDate;
 use std::alloc::Global;
@@ -88,27 +88,14 @@ fn put_date(out: &mut Vec<u8>, moment: u64) -> Result<(), OutOfMemory>
     Ok(())
 }
 
-#[tactic(auto, unfolding(crate::specs::Answers::length_line))]
-fn put_length(out: &mut Vec<u8>, status: u16, count: usize) -> Result<(), OutOfMemory>
-    ensures { OnOk result (out.new.items ≡ out.old.items ++ length_line status count) }
+#[tactic(auto, unfolding(crate::specs::Answers::answer_length_line))]
+fn put_answer_length(out: &mut Vec<u8>, status: u16, count: usize) -> Result<(), OutOfMemory>
+    ensures { OnOk result (out.new.items ≡ out.old.items ++ answer_length_line status count) }
 {
     if status == 204 || status == 304 {
         return Ok(());
     }
-    put(out, b"Content-Length: ")?;
-    put_number(out, count as u64)?;
-    put(out, b"\r\n")
-}
-
-#[tactic(auto, unfolding(crate::specs::Answers::close_line))]
-fn put_close(out: &mut Vec<u8>, close: bool) -> Result<(), OutOfMemory>
-    ensures { OnOk result (out.new.items ≡ out.old.items ++ close_line close) }
-{
-    if close {
-        put(out, b"Connection: close\r\n")
-    } else {
-        Ok(())
-    }
+    put_length(out, count)
 }
 
 fn put_body(out: &mut Vec<u8>, answer: &Answer) -> Result<(), OutOfMemory>
@@ -132,7 +119,7 @@ pub fn write_answer(alloc: Global, answer: &Answer) -> Result<Octets, OutOfMemor
     put_status(&mut out, answer.status)?;
     put_date(&mut out, answer.moment)?;
     put_pairs(&mut out, answer.lines.as_slice())?;
-    put_length(&mut out, answer.status, answer.body.bytes().len())?;
+    put_answer_length(&mut out, answer.status, answer.body.bytes().len())?;
     put_close(&mut out, answer.close)?;
     put(&mut out, b"\r\n")?;
     put_body(&mut out, answer)?;

@@ -10,6 +10,7 @@ mod request;
 mod request_checks;
 mod request_feed;
 mod request_head;
+mod request_text;
 mod search;
 mod text;
 mod unread;
@@ -20,6 +21,7 @@ pub use fields::Fields;
 pub use pair::{Pair, PairList};
 pub use request::{Next, Request};
 pub use request_feed::RequestFeed;
+pub use request_text::write_request;
 
 #[cfg(test)]
 mod tests;

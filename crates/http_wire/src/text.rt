@@ -1,7 +1,7 @@
 //! Texts that are written piece by piece.
 ghost use Rattle.std.specs.Prelude.{◌≡◌, ◌++◌, OnOk, decimal};
 ghost use Rattle.std.specs.List.{flat_map};
-ghost use Rattle.http_wire.specs.Answers.{pair_line};
+ghost use Rattle.http_wire.specs.FieldLines.{pair_line, length_line, close_line};
 
 use crate::pair::Pair;
 use auth_grammar::OutOfMemory;
@@ -37,4 +37,24 @@ pub(crate) fn put_pairs(out: &mut Vec<u8>, pairs: &[Pair]) -> Result<(), OutOfMe
         put_pair(out, pair)?;
     }
     Ok(())
+}
+
+#[tactic(auto, unfolding(crate::specs::FieldLines::length_line))]
+pub(crate) fn put_length(out: &mut Vec<u8>, count: usize) -> Result<(), OutOfMemory>
+    ensures { OnOk result (out.new.items ≡ out.old.items ++ length_line count) }
+{
+    put(out, b"Content-Length: ")?;
+    put_number(out, count as u64)?;
+    put(out, b"\r\n")
+}
+
+#[tactic(auto, unfolding(crate::specs::FieldLines::close_line))]
+pub(crate) fn put_close(out: &mut Vec<u8>, close: bool) -> Result<(), OutOfMemory>
+    ensures { OnOk result (out.new.items ≡ out.old.items ++ close_line close) }
+{
+    if close {
+        put(out, b"Connection: close\r\n")
+    } else {
+        Ok(())
+    }
 }

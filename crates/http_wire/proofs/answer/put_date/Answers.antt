@@ -1,7 +1,7 @@
 use Rattle.std.proofs.Common.{◌++◌, List, ℕ, refl, sym, ap, ◌∙◌}
 use Rattle.std.specs.Prelude.{codes}
 use Rattle.httpdate.specs.Date.{date_text}
-use Rattle.http_wire.specs.Answers.{crlf}
+use Rattle.http_wire.specs.FieldLines.{crlf}
 use Rattle.http_wire.proofs.DateLemmas.{date_is, date_line_some, three_more}
 use Rattle.http_wire.proofs.answer.put_date.Goals as goal
 
