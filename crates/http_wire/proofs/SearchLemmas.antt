@@ -6,7 +6,7 @@ use Rattle.std.proofs.lemmas.Bool.{lt-ltb}
 use Rattle.std.proofs.lemmas.List.{append-nil, drop-append-le, drop-drop, take_all}
 use Rattle.http_wire.specs.declared.search.Place.TheVariants.{Blank, Head}
 use Rattle.http_wire.specs.HeadPlace.{empty_line, ends_here, blank_len, head_len, place_after, head_place}
-use Rattle.http_wire.specs.Search.{IsOpen, TellsLine, end_here, IsOpenEnd, TellsEnd, Tracks}
+use Rattle.http_wire.specs.Search.{IsOpen, TellsLine, end_here, IsOpenEnd, TellsEnd, end_from, GoesOn, Tracks}
 
 -- ---- one empty line
 
@@ -47,12 +47,16 @@ open_blank (b ∷ c ∷ bytes) h = absurd h
 
 -- ---- a head's end
 
-abbrev placed : ℕ → ℕ → ℕ → ℕ × ℕ
-placed start at n = (start, at + n)
+added : (o : Option ℕ) (at : ℕ) → option_map (λ n. at + n) (option_map suc o) ≡ option_map (λ n. (at + 1) + n) o
+added None at = refl
+added (Some n) at = let e : at + suc n ≡ (at + 1) + n = omega arith in ap (λ (k : ℕ). Some k) e
 
-map_map : (o : Option ℕ) (start at : ℕ) → option_map (placed start at) (option_map suc o) ≡ option_map (placed start (at + 1)) o
-map_map None start at = refl
-map_map (Some n) start at = let e : at + suc n ≡ (at + 1) + n = omega arith in ap (λ (k : ℕ). Some (start, k)) e
+abbrev pair_with : ℕ → ℕ → ℕ × ℕ
+pair_with start end = (start, end)
+
+paired : (o : Option ℕ) (start at : ℕ) → option_map (λ n. pair_with start (at + n)) o ≡ option_map (pair_with start) (option_map (λ n. at + n) o)
+paired None start at = refl
+paired (Some n) start at = refl
 
 end_if : (t : Bool) (n : ℕ) (o : Option ℕ) → cond t (suc n) 0 ≡ 0 → cond t (Some (suc n)) o ≡ o
 end_if true n o h = absurd (omega arith)
@@ -125,36 +129,62 @@ module _ (bytes : List ℕ) (at : ℕ) where
       ap head_place (sym (append-nil bytes)) ∙ t.goes_on [] ∙ ap (λ (k : ℕ). place_after k (bytes ++ [])) sum
       ∙ ap (λ (o : Option ℕ). option_map (λ n. (at, at + n)) o) (ap head_len (drop_none at bytes) ∙ parts.2)
 
-module _ (bytes : List ℕ) (start at : ℕ) where
-  pub head_step : Tracks bytes (Head start at) → TellsEnd (drop at bytes) (Some 0) → Tracks bytes (Head start (at + 1))
-  head_step t tells =
+module _ (bytes : List ℕ) (from at : ℕ) where
+  pub end_step : GoesOn bytes from at → TellsEnd (drop at bytes) (Some 0) → GoesOn bytes from (at + 1)
+  end_step g tells =
       let size : length (drop at bytes) ≡ length bytes - at = length-drop at bytes in
       record {
         within = omega (arith, tells.1);
         goes_on = λ more.
             let s = bytes ++ more in
             let one : drop 1 (drop at s) ≡ drop (at + 1) s = drop-drop 1 at s in
-            let none : end_here (drop at s) ≡ 0 = ap end_here (cut at bytes more t.within) ∙ tells.2 more in
+            let none : end_here (drop at s) ≡ 0 = ap end_here (cut at bytes more g.within) ∙ tells.2 more in
             let size2 : length (drop at s) ≡ length (bytes ++ more) - at = length-drop at s in
             let all : length (bytes ++ more) ≡ length bytes + length more = length-append bytes more in
             let long : 0 < length (drop at s) = omega (arith, tells.1) in
-            t.goes_on more ∙ ap (λ (o : Option ℕ). option_map (λ n. (start, at + n)) o) (step (drop at s) long none ∙ ap (λ (d : List ℕ). option_map suc (head_len d)) one)
-            ∙ map_map (head_len (drop (at + 1) s)) start at;
+            g.goes_on more ∙ ap (λ (o : Option ℕ). option_map (λ n. at + n) o) (step (drop at s) long none ∙ ap (λ (d : List ℕ). option_map suc (head_len d)) one)
+            ∙ added (head_len (drop (at + 1) s)) at;
       }
     where
       step : (d : List ℕ) → 0 < length d → end_here d ≡ 0 → head_len d ≡ option_map suc (head_len (drop 1 d))
       step [] l h = absurd (omega arith)
       step (b ∷ d) l h = head_len_step b d h
 
-  here : Tracks bytes (Head start at) → head_place bytes ≡ option_map (λ n. (start, at + n)) (head_len (drop at bytes))
-  here t = ap head_place (sym (append-nil bytes)) ∙ t.goes_on [] ∙ ap (λ (d : List ℕ). option_map (λ n. (start, at + n)) (head_len d)) (drop_none at bytes)
+  end_so_far : GoesOn bytes from at → end_from from bytes ≡ end_from at bytes
+  end_so_far g = ap (end_from from) (sym (append-nil bytes)) ∙ g.goes_on [] ∙ ap (end_from at) (append-nil bytes)
 
-  pub head_found : (n : ℕ) → Tracks bytes (Head start at) → TellsEnd (drop at bytes) (Some n) → 0 < n → head_place bytes ≡ Some (start, at + n)
-  head_found n t tells l =
-      here t ∙ ap (λ (o : Option ℕ). option_map (λ n. (start, at + n)) o) (head_len_here (drop at bytes) n (ap end_here (sym (append-nil (drop at bytes))) ∙ tells.2 []) l)
+  pub end_found : (n : ℕ) → GoesOn bytes from at → TellsEnd (drop at bytes) (Some n) → 0 < n → end_from from bytes ≡ Some (at + n)
+  end_found n g tells l =
+      end_so_far g ∙ ap (λ (o : Option ℕ). option_map (λ k. at + k) o) (head_len_here (drop at bytes) n (ap end_here (sym (append-nil (drop at bytes))) ∙ tells.2 []) l)
 
-  pub head_open : Tracks bytes (Head start at) → TellsEnd (drop at bytes) None → head_place bytes ≡ None
-  head_open t unsure = here t ∙ ap (λ (o : Option ℕ). option_map (λ n. (start, at + n)) o) (open_end (drop at bytes) unsure)
+  pub end_open : GoesOn bytes from at → TellsEnd (drop at bytes) None → end_from from bytes ≡ None
+  end_open g unsure = end_so_far g ∙ ap (λ (o : Option ℕ). option_map (λ k. at + k) o) (open_end (drop at bytes) unsure)
+
+pub goes_start : (bytes : List ℕ) (from : ℕ) → from ≤ length bytes → GoesOn bytes from from
+goes_start bytes from l = record { within = l; goes_on = λ more. refl }
+
+-- ---- a head whose beginning was found
+
+module _ (bytes : List ℕ) (start from : ℕ) (t : Tracks bytes (Head start from)) where
+  head_so_far : head_place bytes ≡ option_map (pair_with start) (end_from from bytes)
+  head_so_far =
+      ap head_place (sym (append-nil bytes)) ∙ t.goes_on [] ∙ ap (λ (s : List ℕ). option_map (λ n. pair_with start (from + n)) (head_len (drop from s))) (append-nil bytes)
+      ∙ paired (head_len (drop from bytes)) start from
+
+  pub head_found : (end : ℕ) → end_from from bytes ≡ Some end → head_place bytes ≡ Some (start, end)
+  head_found end is = head_so_far ∙ ap (λ (o : Option ℕ). option_map (pair_with start) o) is
+
+  pub head_unfound : end_from from bytes ≡ None → head_place bytes ≡ None
+  head_unfound is = head_so_far ∙ ap (λ (o : Option ℕ). option_map (pair_with start) o) is
+
+  pub head_goes_on : (to : ℕ) → GoesOn bytes from to → Tracks bytes (Head start to)
+  head_goes_on to g = record {
+    within = g.within;
+    goes_on = λ more.
+        t.goes_on more ∙ paired (head_len (drop from (bytes ++ more))) start from
+        ∙ ap (λ (o : Option ℕ). option_map (pair_with start) o) (g.goes_on more)
+        ∙ sym (paired (head_len (drop to (bytes ++ more))) start to);
+  }
 
 -- ---- the same at what `&bytes[at..]` is
 

@@ -4,7 +4,9 @@ use Rattle.std.specs.Option.{option_map}
 use Rattle.http_wire.specs.declared.search.Place.{Place}
 use Rattle.http_wire.specs.declared.search.Place.TheVariants.{Blank, Head}
 use Rattle.http_wire.specs.declared.search.Search.{Search}
-use Rattle.http_wire.specs.declared.search.Search.TheVariants.{At, Missing}
+use Rattle.http_wire.specs.declared.search.Search.TheVariants.{Found, Unfound}
+use Rattle.http_wire.specs.declared.search.End.{End}
+use Rattle.http_wire.specs.declared.search.End.TheVariants.{At, Missing}
 use Rattle.http_wire.specs.HeadPlace.{empty_line, ends_here, blank_len, head_len, place_after, head_place}
 
 -- ---- what the search knows
@@ -37,6 +39,20 @@ abbrev pub TellsEnd : List ℕ → Option ℕ → Type 0
 TellsEnd bytes None = IsOpenEnd bytes
 TellsEnd bytes (Some n) = (n ≤ length bytes) × (0 < length bytes) × ((more : List ℕ) → end_here (bytes ++ more) ≡ n)
 
+-- where the first end from a place on stands
+abbrev pub end_from : ℕ → List ℕ → Option ℕ
+end_from from bytes = option_map (λ n. from + n) (head_len (drop from bytes))
+
+-- whatever follows, the search for an end may go on from there
+pub record GoesOn (bytes : List ℕ) (from to : ℕ) : Type 0 where
+  pub within : to ≤ length bytes
+  pub goes_on : (more : List ℕ) → end_from from (bytes ++ more) ≡ end_from to (bytes ++ more)
+
+-- what a search for an end finds
+abbrev pub FindsEnd : List ℕ → ℕ → End → Type 0
+FindsEnd bytes from (At end) = end_from from bytes ≡ Some end
+FindsEnd bytes from (Missing to) = (end_from from bytes ≡ None) × GoesOn bytes from to
+
 -- how far it has come
 abbrev pub reach : Place → ℕ
 reach (Blank start) = start
@@ -56,5 +72,5 @@ pub record StandsAt (bytes : List ℕ) (start end : ℕ) : Type 0 where
 
 -- what a search finds
 abbrev pub Finds : List ℕ → Search → Type 0
-Finds bytes (At start end) = StandsAt bytes start end
-Finds bytes (Missing place) = (head_place bytes ≡ None) × Tracks bytes place
+Finds bytes (Found start end) = StandsAt bytes start end
+Finds bytes (Unfound place) = (head_place bytes ≡ None) × Tracks bytes place

@@ -62,11 +62,11 @@ fn look(alloc: Global, bytes: &[u8], place: Place) -> Result<Phase, OutOfMemory>
 {
     let first = window(bytes);
     match find_head(first, place) {
-        Search::At { start, end } => match judge_text(alloc, &first[start..end])? {
+        Search::Found { start, end } => match judge_text(alloc, &first[start..end])? {
             Judged::Sound(head) => Ok(Phase::Body { head, start, end }),
             Judged::Faulty(status) => Ok(Phase::Stopped { status }),
         },
-        Search::Missing(place) => {
+        Search::Unfound(place) => {
             if bytes.len() < HEAD_LIMIT {
                 Ok(Phase::Searching(place))
             } else {

@@ -1,6 +1,6 @@
 //! The search for the end of a head.
-ghost use Rattle.std.specs.Prelude.{◌≡◌, ◌≤◌, ℕ, length};
-ghost use Rattle.http_wire.specs.Search.{Tracks, Finds, TellsLine, TellsEnd};
+ghost use Rattle.std.specs.Prelude.{◌≤◌, length};
+ghost use Rattle.http_wire.specs.Search.{Tracks, Finds, FindsEnd, TellsLine, TellsEnd};
 
 /// How far a search has come.
 #[derive(Clone, Copy)]
@@ -14,8 +14,15 @@ pub(crate) enum Place {
 /// Where the head is, or how far the search has come.
 #[derive(Clone, Copy)]
 pub(crate) enum Search {
-    At { start: usize, end: usize },
-    Missing(Place),
+    Found { start: usize, end: usize },
+    Unfound(Place),
+}
+
+/// Where the first line feed with an empty line behind it ends, or how far the search has come.
+#[derive(Clone, Copy)]
+pub(crate) enum End {
+    At(usize),
+    Missing(usize),
 }
 
 /// Searches on.
@@ -64,7 +71,7 @@ fn search_blank(bytes: &[u8], start: usize) -> Search
     let mut at = start;
     'lines: loop {
         match line_here(&bytes[at..]) {
-            None => return Search::Missing(Place::Blank { start: at }),
+            None => return Search::Unfound(Place::Blank { start: at }),
             Some(0) => return search_head(bytes, at, at),
             Some(n) => at += n,
         }
@@ -75,12 +82,23 @@ fn search_head(bytes: &[u8], start: usize, from: usize) -> Search
     requires { Tracks bytes.now (Place.Head start from) }
     ensures { Finds bytes.now result }
 {
+    match find_end(bytes, from) {
+        End::At(end) => Search::Found { start, end },
+        End::Missing(from) => Search::Unfound(Place::Head { start, from }),
+    }
+}
+
+/// Looks for the first line feed from `from` on that is followed by an empty line.
+pub(crate) fn find_end(bytes: &[u8], from: usize) -> End
+    requires { from ≤ length bytes.now }
+    ensures { FindsEnd bytes.now from result }
+{
     let mut at = from;
     'ends: loop {
         match end_at(&bytes[at..]) {
-            None => return Search::Missing(Place::Head { start, from: at }),
+            None => return End::Missing(at),
             Some(0) => at += 1,
-            Some(n) => return Search::At { start, end: at + n },
+            Some(n) => return End::At(at + n),
         }
     }
 }
