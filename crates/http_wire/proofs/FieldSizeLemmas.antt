@@ -7,7 +7,7 @@ use Rattle.std.proofs.lemmas.Slice.Eq.{bytes_eq-Decides}
 use Rattle.http_header.specs.HeaderMap.{Entry, Entries, append, append_all, pairs, entry_pairs}
 use Rattle.http_header.specs.Token.{lowercase}
 use Rattle.std.specs.Char.{to_ascii_lowercase}
-use Rattle.httparse.specs.Grammar.{Field, field_value, skip_ows, trim_ows, is_ows, print_end, print_field, print_blank, print_version, print_section, RequestHead, print_request}
+use Rattle.httparse.specs.Grammar.{Field, field_value, skip_ows, trim_ows, is_ows, print_end, print_field, print_blank, print_version, print_section, print_reason, RequestHead, print_request, ResponseHead, print_response}
 use Rattle.httparse.specs.Spans.{name_and_value}
 use Rattle.http_wire.specs.Fields.{pairs_size, Pairs, lowered}
 
@@ -109,4 +109,20 @@ pub size_read : (written : Pairs) (h : RequestHead) (len count : ℕ) → writte
 size_read written h len count e l m n =
     let a : pairs_size written ≡ pairs_size (map name_and_value h.fields) = ap pairs_size e in
     let b : pairs_size (map name_and_value h.fields) ≤ length (print_request h) = head_size h in
+    omega arith
+
+-- ---- the same for a response
+
+response_size : (h : ResponseHead) → pairs_size (map name_and_value h.fields) ≤ length (print_response h)
+unfolding print_response
+response_size h =
+    let a : pairs_size (map name_and_value h.fields) ≤ length (flat_map print_field h.fields) = fields_le h.fields in
+    let b : length (flat_map print_field h.fields) ≤ length (print_section h.fields h.last) = front_le (flat_map print_field h.fields) (print_end h.last) in
+    let c : length (print_section h.fields h.last) ≤ length (print_response h) = tail_le (print_blank h.blank ++ print_version h.minor ++ 32 ∷ h.digits ++ print_reason h.reason ++ print_end h.line_end) (print_section h.fields h.last) in
+    omega arith
+
+pub size_response : (written : Pairs) (h : ResponseHead) (len count : ℕ) → written ≡ map name_and_value h.fields → len ≡ length (print_response h) → len ≤ count → count ≤ 16384 → pairs_size written ≤ 16384
+size_response written h len count e l m n =
+    let a : pairs_size written ≡ pairs_size (map name_and_value h.fields) = ap pairs_size e in
+    let b : pairs_size (map name_and_value h.fields) ≤ length (print_response h) = response_size h in
     omega arith

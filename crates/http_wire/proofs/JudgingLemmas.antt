@@ -13,7 +13,8 @@ use Rattle.http_wire.specs.Lines.{Line, lines_of, before_lines, line_feeds}
 use Rattle.http_wire.specs.RequestHead.{read_head}
 use Rattle.http_wire.specs.RequestChecks.{judge, judge_head, judge_named}
 use Rattle.http_wire.specs.Fields.{fields_of, Pairs}
-use Rattle.http_wire.proofs.RequestHeadLemmas.{read_head_print, read_head_reads, head_lines, section_lines, bind_some, chosen, before_len, count_if, count_not}
+use Rattle.http_wire.proofs.HeadLineLemmas.{section_lines, bind_some, chosen, before_len, count_if, count_not}
+use Rattle.http_wire.proofs.RequestHeadLemmas.{read_head_print, read_head_reads, head_lines}
 
 -- a line feed for each line
 pub lines_count : (text : List ℕ) (lines : List Line) → lines_of text ≡ Some lines → line_feeds text ≡ length lines
@@ -26,7 +27,7 @@ lines_count (b ∷ bytes) lines h =
       | inr t ↦ sum_by-cons (λ x. cond (x == 10) 1 0) b bytes ∙ count_not (b == 10) (line_feeds bytes) t.0 ∙ after ∙ sym (before_len b ls.0 lines t.1)
     ]
 
-section_count : (fields : List Field) (last : LineEnd) → length (section_lines fields last) ≡ suc (length fields)
+pub section_count : (fields : List Field) (last : LineEnd) → length (section_lines fields last) ≡ suc (length fields)
 section_count [] last = refl
 section_count (f ∷ fields) last = ap suc (section_count fields last)
 
@@ -34,7 +35,7 @@ section_count (f ∷ fields) last = ap suc (section_count fields last)
 pub head_fields : (text : List ℕ) (h : RequestHead) → ReadsRequest text h [] → h.blank ≡ [] → line_feeds text ≡ suc (suc (length h.fields))
 head_fields text h reads blank = lines_count text (head_lines h) (read_head_print text h reads blank).0 ∙ ap suc (section_count h.fields h.last)
 
-empty_lf : (bytes : List ℕ) → empty_line (10 ∷ bytes) ≡ 1
+pub empty_lf : (bytes : List ℕ) → empty_line (10 ∷ bytes) ≡ 1
 empty_lf [] = refl
 empty_lf (b ∷ bytes) = refl
 
@@ -64,7 +65,7 @@ head_before text h len reads le ne = no_head text (λ k is blank.
     let none : length (drop len text) ≡ 0 = ap length same.1 in
     ne (omega arith))
 
-drop_all : (n : ℕ) (l : List ℕ) → n ≡ length l → drop n l ≡ []
+pub drop_all : (n : ℕ) (l : List ℕ) → n ≡ length l → drop n l ≡ []
 drop_all n l e = ap (λ (k : ℕ). drop k l) e ∙ all l
   where
     all : (l : List ℕ) → drop (length l) l ≡ []

@@ -1,8 +1,11 @@
 pub mod HeadPlaceLemmas
 pub mod RequestLaws
+pub mod HeadLineLemmas
 pub mod RequestHeadLemmas
+pub mod ResponseHeadLemmas
 pub mod CheckLemmas
 pub mod JudgingLemmas
+pub mod ResponseJudgingLemmas
 pub mod SearchLemmas
 pub mod RequestFeedLemmas
 pub mod DateLemmas

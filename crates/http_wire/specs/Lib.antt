@@ -1,11 +1,15 @@
 pub mod Lines
 pub mod Values
 pub mod HeadPlace
+pub mod HeadLines
 pub mod RequestHead
+pub mod ResponseHead
 pub mod Fields
 pub mod RequestChecks
+pub mod ResponseChecks
 pub mod Requests
 pub mod ParsedRequest
+pub mod ParsedResponse
 pub mod Search
 pub mod RequestPhase
 pub mod RequestFeed

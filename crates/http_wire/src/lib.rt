@@ -11,6 +11,9 @@ mod request_checks;
 mod request_feed;
 mod request_head;
 mod request_text;
+mod response;
+mod response_checks;
+mod response_head;
 mod search;
 mod text;
 mod unread;
@@ -22,6 +25,7 @@ pub use pair::{Pair, PairList};
 pub use request::{Next, Request};
 pub use request_feed::RequestFeed;
 pub use request_text::write_request;
+pub use response::{NextResponse, Response};
 
 #[cfg(test)]
 mod tests;

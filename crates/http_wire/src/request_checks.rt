@@ -26,13 +26,13 @@ fn has_wrong_host(minor: u8, fields: &Fields) -> bool
     }
 }
 
-fn is_absent(fields: &Fields, name: &[u8]) -> bool
+pub(crate) fn is_absent(fields: &Fields, name: &[u8]) -> bool
     ensures { result ≡ is_empty (values_of fields.now name.now) }
 {
     matches!(fields.values(name), Values::Absent)
 }
 
-fn has_sound_length(fields: &Fields) -> bool
+pub(crate) fn has_sound_length(fields: &Fields) -> bool
     ensures { result ≡ are_lengths (values_of fields.now (codes "content-length")) }
 {
     match fields.values(b"content-length") {

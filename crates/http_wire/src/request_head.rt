@@ -30,7 +30,7 @@ pub(crate) enum Judged {
     Faulty(u16),
 }
 
-fn count_lines(text: &[u8]) -> usize
+pub(crate) fn count_lines(text: &[u8]) -> usize
     ensures { result ≡ line_feeds text.now }
 {
     text.iter().filter(|b| **b == 10).count()
