@@ -6,6 +6,7 @@ pub mod ResponseHeadLemmas
 pub mod CheckLemmas
 pub mod JudgingLemmas
 pub mod ResponseJudgingLemmas
+pub mod ChunkLineLemmas
 pub mod SearchLemmas
 pub mod RequestFeedLemmas
 pub mod DateLemmas

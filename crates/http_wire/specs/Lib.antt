@@ -18,3 +18,4 @@ pub mod Dates
 pub mod FieldLines
 pub mod Answers
 pub mod RequestTexts
+pub mod ChunkLine

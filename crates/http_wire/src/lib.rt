@@ -3,6 +3,7 @@
 #![tactic(auto)]
 
 mod answer;
+mod chunk_line;
 mod fields;
 mod pair;
 mod phase;
