@@ -5,7 +5,7 @@ use Rattle.std.specs.List.{list_all}
 use Rattle.std.specs.Char.{is_ascii_hexdigit}
 use Rattle.std.specs.Str.Parse.{digits_value}
 use Rattle.std.proofs.lemmas.Bool.{ltb-true, lt-ltb, and_parts, and_from, eqb-true, eqb-false, ne_eqb}
-use Rattle.std.proofs.lemmas.List.{append-nil, get_or_append_left}
+use Rattle.std.proofs.lemmas.List.{append-nil, get_or_append_left, take-append-le, take_all}
 use Rattle.std.proofs.Math.Seq.{drop-cons}
 use Rattle.std.proofs.Math.ListN.{drop_of_length-le}
 use Rattle.std.proofs.Math.Numerals.{add-one}
@@ -425,3 +425,38 @@ size_is bytes l rest reads =
     let next = follows l.pad l.extension rest (list_all-from_AllPass is_ows l.pad is.pad) in
     let text : bytes ≡ l.digits ++ next.0 ∷ next.1 = reads.1 ∙ print_line_append l rest ∙ ap (λ (t : List ℕ). l.digits ++ t) next.2 in
     ap (digits_value 16) (sym (ap (take_while is_ascii_hexdigit) text ∙ hex_front l.digits next.0 next.1 (list_all-from_AllPass is_ascii_hexdigit l.digits is.digits.2) next.3))
+
+-- ---- a whole line
+
+pub take_append : (front rest : List ℕ) (n : ℕ) → n ≡ length front → take n (front ++ rest) ≡ front
+take_append front rest n e = take-append-le n front rest (omega arith) ∙ take_all n front (omega arith)
+
+-- a line at the front, whatever follows
+module _ (bytes : List ℕ) (count : ℕ) (h : chunk_line bytes ≡ Line count) where
+  pub line_stays : (more : List ℕ) → chunk_line (bytes ++ more) ≡ Line count
+  line_stays more = subst (λ (f : LineFront). StaysLine f (chunk_line (bytes ++ more))) h (chunk_line_more bytes more)
+
+  pub size_stays : (more : List ℕ) → size_of (bytes ++ more) ≡ size_of bytes
+  size_stays more =
+      let line = chunk_line_reads bytes count h in
+      let later : ReadsChunkLine (bytes ++ more) line.0 (line.1 ++ more) =
+      (line.2.0, ap (λ (b : List ℕ). b ++ more) line.2.1 ∙ append_assoc (print_chunk_line line.0) line.1 more) in
+      sym (size_is (bytes ++ more) line.0 (line.1 ++ more) later) ∙ size_is bytes line.0 line.1 line.2
+
+  -- the text of the line alone
+  pub line_text : (chunk_line (take count bytes) ≡ Line (length (take count bytes))) × (size_of (take count bytes) ≡ size_of bytes) × (count ≤ length bytes) × (0 < count)
+  line_text =
+      let line = chunk_line_reads bytes count h in
+      let l = line.0 in
+      let is : Line count ≡ Line (length (print_chunk_line l)) = sym h ∙ chunk_line_print bytes l line.1 line.2 in
+      let same : count ≡ length (print_chunk_line l) = cc in
+      let text : take count bytes ≡ print_chunk_line l = ap (take count) line.2.1 ∙ take_append (print_chunk_line l) line.1 count same in
+      let reads : ReadsChunkLine (take count bytes) l [] = (line.2.0, text ∙ sym (append-nil (print_chunk_line l))) in
+      let size : length bytes ≡ length (print_chunk_line l) + length line.1 = ap length line.2.1 ∙ length-append (print_chunk_line l) line.1 in
+      let all : length (print_chunk_line l) ≡ length l.digits + (length l.pad + (length (print_extension l.extension) + 2)) = print_line_length l in
+      (
+        chunk_line_print (take count bytes) l [] reads ∙ ap Line (sym (ap length text)),
+        sym (size_is (take count bytes) l [] reads) ∙ size_is bytes l line.1 line.2,
+        omega arith,
+        omega arith,
+      )

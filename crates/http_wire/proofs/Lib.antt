@@ -13,3 +13,4 @@ pub mod DateLemmas
 pub mod RequestRunLemmas
 pub mod FieldSizeLemmas
 pub mod StatusLemmas
+pub mod ResponseLaws

@@ -19,3 +19,4 @@ pub mod FieldLines
 pub mod Answers
 pub mod RequestTexts
 pub mod ChunkLine
+pub mod Responses
