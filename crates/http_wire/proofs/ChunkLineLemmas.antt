@@ -1,5 +1,5 @@
 -- The line before a chunk: as more bytes come, byte by byte, and by the grammar of `httparse`.
-use Rattle.std.proofs.Common.{◌≡◌, ◌∷◌, [], ◌++◌, ◌<◌, ◌≤◌, ◌+◌, ℕ, zero, suc, List, length, take, drop, get_or, Option, Some, None, Bool, true, false, cond, ◌⊎◌, inl, inr, sym, refl, ap, ◌∙◌, subst, append_assoc, length-append, add_assoc, arith}
+use Rattle.std.proofs.Common.{◌≡◌, ◌∷◌, [], ◌++◌, ◌<◌, ◌≤◌, ◌+◌, ℕ, suc, List, length, take, drop, get_or, Option, Some, None, Bool, true, false, cond, ◌⊎◌, inl, inr, sym, refl, ap, ◌∙◌, subst, append_assoc, length-append, arith}
 use Rattle.std.specs.Prelude.{◌==◌, ◌||◌, nat_lt, take_while}
 use Rattle.std.specs.List.{list_all}
 use Rattle.std.specs.Char.{is_ascii_hexdigit}
@@ -10,7 +10,7 @@ use Rattle.std.proofs.Math.Seq.{drop-cons}
 use Rattle.std.proofs.Math.ListN.{drop_of_length-le}
 use Rattle.std.proofs.Math.Numerals.{add-one}
 use Rattle.std.proofs.lemmas.List.Sums.{AllPass-from_list_all, list_all-from_AllPass, take_while-cons}
-use Rattle.httparse.specs.Grammar.{is_ows, is_extension_byte, AllPass, crlf, print_end, print_extension, IsExtension, ChunkLine, IsChunkLine, print_chunk_line, ReadsChunkLine, HasNoChunkLine, NeverHasChunkLine, chunk_size}
+use Rattle.httparse.specs.Grammar.{is_ows, is_extension_byte, crlf, print_end, print_extension, IsExtension, ChunkLine, IsChunkLine, print_chunk_line, ReadsChunkLine, NeverHasChunkLine, chunk_size}
 use Rattle.http_wire.specs.declared.chunk_line.LinePart.{LinePart}
 use Rattle.http_wire.specs.declared.chunk_line.LinePart.TheVariants.{Digits, Pad, Extension, End}
 use Rattle.http_wire.specs.declared.chunk_line.LineStep.{LineStep}
@@ -204,11 +204,11 @@ chunk_line_print buf l rest reads =
     ap (λ (b : List ℕ). line_from b (Digits 0)) (reads.1 ∙ print_line_append l rest)
     ∙ digits_run l.digits (l.pad ++ tail) 0 hex (omega (arith, is.digits.1))
     ∙ ap (λ (f : LineFront). behind (length l.digits) f) (
-      ap (λ (b : List ℕ). line_from b (Digits (0 + length l.digits))) next.2
-      ∙ leaves_digits next.0 (0 + length l.digits) next.1 next.3 (omega (arith, is.digits.0))
-      ∙ ap (λ (b : List ℕ). line_from b Pad) (sym next.2)
-      ∙ pad_run l.pad tail ows
-      ∙ ap (behind (length l.pad)) (tail_run l.extension rest is.extension)
+    ap (λ (b : List ℕ). line_from b (Digits (0 + length l.digits))) next.2
+    ∙ leaves_digits next.0 (0 + length l.digits) next.1 next.3 (omega (arith, is.digits.0))
+    ∙ ap (λ (b : List ℕ). line_from b Pad) (sym next.2)
+    ∙ pad_run l.pad tail ows
+    ∙ ap (behind (length l.pad)) (tail_run l.extension rest is.extension)
     )
     ∙ ap Line (sym (print_line_length l))
 
@@ -453,8 +453,7 @@ module _ (bytes : List ℕ) (count : ℕ) (h : chunk_line bytes ≡ Line count) 
       let text : take count bytes ≡ print_chunk_line l = ap (take count) line.2.1 ∙ take_append (print_chunk_line l) line.1 count same in
       let reads : ReadsChunkLine (take count bytes) l [] = (line.2.0, text ∙ sym (append-nil (print_chunk_line l))) in
       let size : length bytes ≡ length (print_chunk_line l) + length line.1 = ap length line.2.1 ∙ length-append (print_chunk_line l) line.1 in
-      let all : length (print_chunk_line l) ≡ length l.digits + (length l.pad + (length (print_extension l.extension) + 2)) = print_line_length l in
-      (
+      let all : length (print_chunk_line l) ≡ length l.digits + (length l.pad + (length (print_extension l.extension) + 2)) = print_line_length l in (
         chunk_line_print (take count bytes) l [] reads ∙ ap Line (sym (ap length text)),
         sym (size_is (take count bytes) l [] reads) ∙ size_is bytes l line.1 line.2,
         omega arith,

@@ -192,3 +192,45 @@ no_blank_place bytes place h =
     let len : place.1 - place.0 ≡ p.len = let e = p.last in omega arith in
     let two : 2 ≤ place.1 - place.0 = let le : 2 ≤ p.len = head_len_two (drop place.0 bytes) p.len p.found in omega arith in
     empty_line_take (place.1 - place.0) (drop place.0 bytes) two ∙ ap (λ (k : ℕ). empty_line (drop k bytes)) p.first ∙ blank_max bytes
+
+-- ---- the text of a head alone
+
+empty_line_self : (bytes : List ℕ) → empty_line (take (empty_line bytes) bytes) ≡ empty_line bytes
+empty_line_self [] = refl
+empty_line_self (b ∷ []) = by (b == 10) b refl
+  where
+    by : (t : Bool) (b : ℕ) → (b == 10) ≡ t → empty_line (take (cond t 1 0) (b ∷ [])) ≡ cond t 1 0
+    by true b e = ap (λ (x : Bool). cond x 1 0) e
+    by false b e = refl
+empty_line_self (b ∷ c ∷ bytes) = by (b == 10) (b == 13 && c == 10) refl refl
+  where
+    by : (t s : Bool) → (b == 10) ≡ t → (b == 13 && c == 10) ≡ s → empty_line (take (cond t 1 (cond s 2 0)) (b ∷ c ∷ bytes)) ≡ cond t 1 (cond s 2 0)
+    by true s e f = ap (λ (x : Bool). cond x 1 0) e
+    by false true e f = ap (λ (x : Bool). cond x 1 (cond (b == 13 && c == 10) 2 0)) e ∙ ap (λ (x : Bool). cond x 2 0) f
+    by false false e f = refl
+
+unmapped : (o : Option ℕ) (n : ℕ) → option_map suc o ≡ Some n → (m : ℕ) × (o ≡ Some m) × (suc m ≡ n)
+unmapped None n e = cc
+unmapped (Some m) n e = (m, refl, cc)
+
+-- a head ends where its text ends
+pub head_len_take : (bytes : List ℕ) (n : ℕ) → head_len bytes ≡ Some n → head_len (take n bytes) ≡ Some n
+head_len_take [] n h = cc
+head_len_take (b ∷ bytes) n h = pick (ends_here b bytes) refl (λ m e. head_len_take bytes m e)
+  where
+    pick : (t : Bool) → ends_here b bytes ≡ t → ((m : ℕ) → head_len bytes ≡ Some m → head_len (take m bytes) ≡ Some m) → head_len (take n (b ∷ bytes)) ≡ Some n
+    pick true e later =
+        let is : Some (suc (empty_line bytes)) ≡ Some n = ap (λ (x : Bool). cond x (Some (suc (empty_line bytes))) (option_map suc (head_len bytes))) (sym e) ∙ h in
+        let same : suc (empty_line bytes) ≡ n = cc in
+        let k = empty_line bytes in
+        subst (λ (x : ℕ). head_len (take x (b ∷ bytes)) ≡ Some x) same
+        (ap (λ (x : ℕ). cond (b == 10 && nat_lt 0 x) (Some (suc x)) (option_map suc (head_len (take k bytes)))) (empty_line_self bytes)
+        ∙ ap (λ (x : Bool). cond x (Some (suc k)) (option_map suc (head_len (take k bytes)))) e)
+    pick false e later =
+        let mapped : option_map suc (head_len bytes) ≡ Some n = ap (λ (x : Bool). cond x (Some (suc (empty_line bytes))) (option_map suc (head_len bytes))) (sym e) ∙ h in
+        let m = unmapped (head_len bytes) n mapped in
+        let two : 2 ≤ m.0 = head_len_two bytes m.0 m.1 in
+        subst (λ (x : ℕ). head_len (take x (b ∷ bytes)) ≡ Some x) m.2
+        (ap (λ (x : ℕ). cond (b == 10 && nat_lt 0 x) (Some (suc x)) (option_map suc (head_len (take m.0 bytes)))) (empty_line_take m.0 bytes two)
+        ∙ ap (λ (x : Bool). cond x (Some (suc (empty_line bytes))) (option_map suc (head_len (take m.0 bytes)))) e
+        ∙ ap (option_map suc) (later m.0 m.1))

@@ -14,3 +14,4 @@ pub mod RequestRunLemmas
 pub mod FieldSizeLemmas
 pub mod StatusLemmas
 pub mod ResponseLaws
+pub mod ResponseFeedLemmas

@@ -1,18 +1,18 @@
 -- Reading the head of a response is the grammar of `httparse`, both ways, where no more than one empty line stands before it.
-use Rattle.std.proofs.Common.{◌≡◌, ◌∷◌, [], ◌++◌, ◌<◌, ◌≤◌, ◌+◌, ℕ, zero, suc, List, length, take, drop, Option, Some, None, Bool, true, false, cond, ◌⊎◌, inl, inr, sym, refl, ap, ◌∙◌, subst, append_assoc, length-append, arith}
-use Rattle.std.specs.Prelude.{◌==◌, ◌&&◌, not, nat_lt, All}
-use Rattle.std.specs.List.{list_all, flat_map}
+use Rattle.std.proofs.Common.{◌≡◌, ◌∷◌, [], ◌++◌, ◌≤◌, ℕ, zero, suc, List, length, take, drop, Option, Some, None, Bool, true, false, cond, inl, inr, sym, refl, ap, ◌∙◌, subst, append_assoc, arith}
+use Rattle.std.specs.Prelude.{◌==◌, ◌&&◌, not}
+use Rattle.std.specs.List.{list_all}
 use Rattle.std.specs.Char.{is_ascii_digit}
 use Rattle.std.proofs.lemmas.Bool.{and_parts, and_from, eqb-true, eq-eqb}
 use Rattle.std.proofs.lemmas.List.{append-nil, take-append-drop, take-append-le, drop-append-le, take_all}
 use Rattle.std.proofs.lemmas.List.Sums.{AllPass-from_list_all, list_all-from_AllPass}
-use Rattle.httparse.specs.Grammar.{is_token_byte, is_value_byte, AllPass, LineEnd, crlf, lf, print_end, print_blank, print_version, print_reason, reason_phrase, Field, IsField, print_field, print_section, ResponseHead, IsResponseHead, print_response, ReadsResponse}
+use Rattle.httparse.specs.Grammar.{is_value_byte, AllPass, LineEnd, print_end, print_blank, print_version, print_reason, reason_phrase, Field, print_section, ResponseHead, IsResponseHead, print_response, ReadsResponse}
 use Rattle.httparse.proofs.GrammarLemmas.{print_response-append, cons-append}
 use Rattle.http_wire.specs.Lines.{Line, lines_of, cut_at, ◌>>=◌}
 use Rattle.http_wire.specs.Values.{is_empty}
 use Rattle.http_wire.specs.HeadLines.{minor_of, section_of}
 use Rattle.http_wire.specs.ResponseHead.{StatusLine, is_code, reason_of, status_line_of, head_behind, response_head_of, read_response_head}
-use Rattle.http_wire.proofs.HeadLineLemmas.{print_line, print_lines, bind_some, chosen, Lacks, Lacks_by, Lacks_pass, Lacks_append, cut_at_print, cut_at_reads, minor_of_print, minor_of_reads, EachField, field_line, section_lines, section_of_print, section_of_reads, section_print, fields_each, each_fields, IsClean, lines_of_clean, lines_of_print, section_clean, version_clean, end_before, empty_is}
+use Rattle.http_wire.proofs.HeadLineLemmas.{print_lines, bind_some, chosen, Lacks, Lacks_by, Lacks_pass, Lacks_append, cut_at_print, cut_at_reads, minor_of_print, minor_of_reads, section_lines, section_of_print, section_of_reads, section_print, fields_each, each_fields, IsClean, lines_of_clean, lines_of_print, section_clean, version_clean, end_before, empty_is}
 
 -- ---- the status line
 

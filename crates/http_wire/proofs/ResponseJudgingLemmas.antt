@@ -1,14 +1,14 @@
 -- Judging the text of a response's head.
-use Rattle.std.proofs.Common.{◌≡◌, ◌∷◌, [], ◌++◌, ◌<◌, ◌≤◌, ◌+◌, ◌-◌, ℕ, suc, List, length, map, drop, Option, Some, None, Bool, true, cond, sym, refl, ap, ◌∙◌, subst, append_assoc, length-append, length-drop, arith}
-use Rattle.std.specs.Prelude.{◌==◌, nat_lt}
+use Rattle.std.proofs.Common.{◌≡◌, ◌∷◌, [], ◌++◌, ◌<◌, ◌≤◌, ◌+◌, ◌-◌, ℕ, suc, List, length, map, drop, Option, Some, None, Bool, cond, sym, refl, ap, ◌∙◌, subst, append_assoc, length-append, length-drop, arith}
+use Rattle.std.specs.Prelude.{nat_lt}
 use Rattle.std.specs.Option.{option_map}
 use Rattle.std.proofs.lemmas.Bool.{lt-ltb, le-ltb, cond-true, cond-false}
 use Rattle.std.proofs.lemmas.List.{append-nil}
-use Rattle.httparse.specs.Grammar.{LineEnd, crlf, lf, print_blank, print_end, print_version, print_reason, print_section, ResponseHead, print_response, ReadsResponse, HasNoResponse}
+use Rattle.httparse.specs.Grammar.{LineEnd, crlf, lf, print_blank, print_end, ResponseHead, print_response, ReadsResponse, HasNoResponse}
 use Rattle.httparse.specs.Spans.{ResponseOverflows}
-use Rattle.httparse.proofs.GrammarLemmas.{response_unique, print_response-append}
-use Rattle.http_wire.specs.HeadPlace.{empty_line, head_len}
-use Rattle.http_wire.specs.Lines.{Line, line_feeds}
+use Rattle.httparse.proofs.GrammarLemmas.{response_unique}
+use Rattle.http_wire.specs.HeadPlace.{head_len}
+use Rattle.http_wire.specs.Lines.{line_feeds}
 use Rattle.http_wire.specs.ResponseHead.{read_response_head}
 use Rattle.httparse.specs.Spans.{name_and_value}
 use Rattle.http_wire.specs.declared.response_checks.JudgedResponse.TheVariants.{Faulty}

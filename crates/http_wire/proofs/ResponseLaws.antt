@@ -1,8 +1,8 @@
 -- What stands at the front of a stream of responses: round by round, and as more bytes come.
-use Rattle.std.proofs.Common.{◌≡◌, ◌∷◌, [], ◌++◌, ◌<◌, ◌≤◌, ◌+◌, ◌-◌, ℕ, zero, suc, List, length, take, drop, Option, Some, None, Bool, true, false, cond, ◌⊎◌, inl, inr, sym, refl, ap, ◌∙◌, subst, append_assoc, length-append, length-drop, min, arith}
+use Rattle.std.proofs.Common.{◌≡◌, ◌∷◌, [], ◌++◌, ◌<◌, ◌≤◌, ◌+◌, ◌-◌, ℕ, zero, suc, List, length, take, drop, Option, Some, None, Bool, true, false, cond, inl, inr, sym, refl, ap, ◌∙◌, subst, length-append, length-drop, min, arith}
 use Rattle.std.specs.Prelude.{◌==◌, ◌&&◌, nat_lt}
 use Rattle.std.proofs.lemmas.Bool.{ltb-true, ltb-false, lt-ltb, le-ltb}
-use Rattle.std.proofs.lemmas.List.{append-nil, take-append-le, drop-append-le, take-append-drop, length-take}
+use Rattle.std.proofs.lemmas.List.{take-append-le, drop-append-le, take-append-drop, length-take}
 use Rattle.http_wire.specs.declared.response.Response.{Response}
 use Rattle.http_wire.specs.declared.response_checks.Framing.{Framing}
 use Rattle.http_wire.specs.declared.response_checks.Framing.TheVariants.{Sized, TooLong, Chunked, UntilEnd}
@@ -281,3 +281,59 @@ chunks_more_in (suc k) more response at place bytes l =
 
 pub chunks_more : (more : List ℕ) (response : Response) (at place : ℕ) (bytes : List ℕ) → LaterResponse more (chunks response at place bytes) (chunks response at place (bytes ++ more))
 chunks_more more response at place bytes = chunks_more_in (length bytes) more response at place bytes (omega arith)
+
+body_more : (more : List ℕ) (response : Response) (framing : Framing) (at : ℕ) (bytes : List ℕ) → LaterResponse more (body_front response framing at bytes) (body_front response framing at (bytes ++ more))
+body_more more response (Sized size) at bytes = sized_more response at size bytes more
+body_more more response TooLong at bytes = refl
+body_more more response Chunked at bytes = chunks_more more response at at bytes
+body_more more response UntilEnd at bytes = open_more response at bytes more
+
+-- a head in the first bytes
+pub window_head : (bytes more : List ℕ) (n : ℕ) → head_len (take 16384 bytes) ≡ Some n → (head_len (take 16384 (bytes ++ more)) ≡ Some n) × (n ≤ length bytes) × (0 < n)
+window_head bytes more n h =
+    let split = take_split 16384 bytes more in
+    let within : (0 < n) × (n ≤ length (take 16384 bytes)) = head_len_within (take 16384 bytes) n h in
+    let window : length (take 16384 bytes) ≤ length bytes = window_le bytes in
+    (ap head_len split.1 ∙ head_len_more (take 16384 bytes) split.0 n h, omega arith, omega arith)
+
+module _ (more : List ℕ) (next : ℕ → List ℕ → ResponseFront) (to_head : Bool) (at : ℕ) (bytes : List ℕ)
+    (later : (p : ℕ) (b : List ℕ) → length b < length bytes → LaterResponse more (next p b) (next p (b ++ more))) where
+  judged_more : (judged : JudgedResponse) (place n : ℕ) → length (drop n bytes) < length bytes → LaterResponse more (behind_head next judged at place (drop n bytes)) (behind_head next judged at place (drop n bytes ++ more))
+  judged_more Faulty place n less = refl
+  judged_more Informational place n less = later place (drop n bytes) less
+  judged_more (Sound head) place n less = body_more more head.response head.framing place (drop n bytes)
+
+  at_head_more : (o : Option ℕ) → head_len (take 16384 bytes) ≡ o → LaterResponse more (at_head next to_head at o bytes) (at_head next to_head at (head_len (take 16384 (bytes ++ more))) (bytes ++ more))
+  at_head_more (Some n) h =
+      let w = window_head bytes more n h in
+      let size : length (drop n bytes) ≡ length bytes - n = length-drop n bytes in
+      let now : at_head next to_head at (head_len (take 16384 (bytes ++ more))) (bytes ++ more) ≡ behind_head next (judge_response to_head (take n bytes)) at (at + n) (drop n bytes ++ more) =
+      ap (λ (o : Option ℕ). at_head next to_head at o (bytes ++ more)) w.0
+      ∙ (λ i. behind_head next (judge_response to_head (take-append-le n bytes more w.1 i)) at (at + n) (drop-append-le n bytes more w.1 i)) in
+      subst (λ (f : ResponseFront). LaterResponse more (behind_head next (judge_response to_head (take n bytes)) at (at + n) (drop n bytes)) f) (sym now)
+      (judged_more (judge_response to_head (take n bytes)) (at + n) n (omega (arith, w.2)))
+  at_head_more None h = by (nat_lt (length bytes) 16384) refl
+    where
+      by : (t : Bool) → nat_lt (length bytes) 16384 ≡ t → LaterResponse more (cond t (Incomplete at) (Broken at)) (at_head next to_head at (head_len (take 16384 (bytes ++ more))) (bytes ++ more))
+      by true e = tt
+      by false e = ap (λ (o : Option ℕ). at_head next to_head at o (bytes ++ more)) (ap head_len (full bytes more e) ∙ h) ∙ ap (λ (t : Bool). cond t (Incomplete at) (Broken at)) (enough bytes more 16384 e)
+
+response_more_in : (k : ℕ) (more : List ℕ) (to_head : Bool) (at : ℕ) (bytes : List ℕ) → length bytes ≤ k → LaterResponse more (response_front to_head at bytes) (response_front to_head at (bytes ++ more))
+unfolding response_front
+response_more_in zero more to_head at bytes l = subst (λ (f : ResponseFront). LaterResponse more f (response_front to_head at (bytes ++ more))) (sym (no_response (length bytes) to_head at bytes l)) tt
+response_more_in (suc k) more to_head at bytes l =
+    subst (λ (f : ResponseFront). LaterResponse more f (response_front to_head at (bytes ++ more))) (sym (responses_step to_head at bytes))
+    (subst (λ (f : ResponseFront). LaterResponse more (at_head (λ p b. response_front to_head p b) to_head at (head_len (take 16384 bytes)) bytes) f) (sym (responses_step to_head at (bytes ++ more)))
+    (at_head_more more (λ p b. response_front to_head p b) to_head at bytes (λ p b less. response_more_in k more to_head p b (omega arith)) (head_len (take 16384 bytes)) refl))
+
+-- What stands at the front when more bytes came.
+pub response_more : (to_head : Bool) (at : ℕ) (bytes more : List ℕ) → LaterResponse more (response_front to_head at bytes) (response_front to_head at (bytes ++ more))
+response_more to_head at bytes more = response_more_in (length bytes) more to_head at bytes (omega arith)
+
+-- A response stays when bytes follow.
+pub complete_more : (to_head : Bool) (at : ℕ) (bytes more : List ℕ) (response : Response) (rest : List ℕ) → response_front to_head at bytes ≡ Complete response rest → response_front to_head at (bytes ++ more) ≡ Complete response (rest ++ more)
+complete_more to_head at bytes more response rest h = subst (λ (f : ResponseFront). LaterResponse more f (response_front to_head at (bytes ++ more))) h (response_more to_head at bytes more)
+
+-- A fault stays where it is.
+pub broken_more : (to_head : Bool) (at : ℕ) (bytes more : List ℕ) (fault : ℕ) → response_front to_head at bytes ≡ Broken fault → response_front to_head at (bytes ++ more) ≡ Broken fault
+broken_more to_head at bytes more fault h = subst (λ (f : ResponseFront). LaterResponse more f (response_front to_head at (bytes ++ more))) h (response_more to_head at bytes more)

@@ -1,5 +1,5 @@
 -- The line before a chunk (RFC 9112 section 7.1): 1 to 16 hexadecimal digits, white space, an extension behind a semicolon, CR LF.
-use Rattle.std.specs.Prelude.{◌≡◌, ⊤, ℕ, suc, ◌+◌, ◌≤◌, Bool, List, [], ◌∷◌, ◌++◌, length, drop, take_while, if◌then◌else◌, ◌==◌, nat_lt}
+use Rattle.std.specs.Prelude.{◌≡◌, ℕ, ◌+◌, ◌≤◌, List, [], ◌∷◌, ◌++◌, length, drop, take_while, if◌then◌else◌, ◌==◌, nat_lt}
 use Rattle.std.specs.Char.{is_ascii_hexdigit}
 use Rattle.std.specs.Str.Parse.{digits_value}
 use Rattle.httparse.specs.Grammar.{is_ows, is_extension_byte}

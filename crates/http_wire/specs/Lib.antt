@@ -20,3 +20,5 @@ pub mod Answers
 pub mod RequestTexts
 pub mod ChunkLine
 pub mod Responses
+pub mod ResponseFeed
+pub mod ResponseSteps

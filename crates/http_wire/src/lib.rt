@@ -1,10 +1,11 @@
-//! Messages of HTTP/1.1 on a connection (RFC 9112): how a stream of bytes is cut into requests,
-//! and the text of replies.
+//! Messages of HTTP/1.1 on a connection (RFC 9112): how a stream of bytes is cut into requests
+//! and into responses, and the texts of both.
 #![tactic(auto)]
 
 mod answer;
 mod chunk_line;
 mod fields;
+mod front;
 mod pair;
 mod phase;
 mod request;
@@ -14,7 +15,10 @@ mod request_head;
 mod request_text;
 mod response;
 mod response_checks;
+mod response_feed;
 mod response_head;
+mod response_stage;
+mod response_step;
 mod search;
 mod text;
 mod unread;
@@ -27,6 +31,7 @@ pub use request::{Next, Request};
 pub use request_feed::RequestFeed;
 pub use request_text::write_request;
 pub use response::{NextResponse, Response};
+pub use response_feed::ResponseFeed;
 
 #[cfg(test)]
 mod tests;

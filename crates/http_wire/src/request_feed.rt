@@ -7,6 +7,7 @@ ghost use Rattle.std.specs.List.{concat};
 ghost use Rattle.http_wire.specs.RequestRuns.{Takes, IsAllOf};
 ghost use Rattle.http_wire.specs.Requests.{with_body, begun_at};
 
+use crate::front::{HEAD_LIMIT, behind, front_of, window};
 use crate::phase::Phase;
 use crate::request::{Next, Request};
 use crate::request_head::{Judged, SoundHead, judge_text};
@@ -16,9 +17,6 @@ use auth_grammar::{Octets, OutOfMemory};
 use std::alloc::Global;
 use std::marker::Model;
 use std::mem;
-
-/// The most bytes of a head, with the empty lines before it.
-pub const HEAD_LIMIT: usize = 16_384;
 
 /// Requests that come in pieces. Contracts see what it holds: the bytes behind the messages that it gave, their place,
 /// whether a `Continue` was given for them, and whether it stopped at a bad message.
@@ -42,17 +40,6 @@ impl Model for RequestFeed {
     ghost view = { λ f. record { rest = f.rest; at = f.at; told = f.told; stopped = is_stopped f.phase } };
 
     ghost invariant = { λ f. IsPhase f.rest f.phase × (f.at + length f.rest < 2 ^ 63) };
-}
-
-// the bytes in which a head must end
-fn window(bytes: &[u8]) -> &[u8]
-    ensures { result.now ≡ take 16384 bytes.now }
-{
-    if bytes.len() < HEAD_LIMIT {
-        bytes
-    } else {
-        &bytes[..HEAD_LIMIT]
-    }
 }
 
 // looks at the bytes that came, from a place on
@@ -208,22 +195,6 @@ fn owes(expects: bool, told: bool) -> bool
     ensures { result ≡ (expects && not told) }
 {
     expects && !told
-}
-
-// the bytes from a place on
-fn behind(bytes: &[u8], at: usize) -> &[u8]
-    requires { at ≤ length bytes.now }
-    ensures { result.now ≡ drop at bytes.now }
-{
-    &bytes[at..]
-}
-
-// the first bytes
-fn front_of(bytes: &[u8], len: usize) -> &[u8]
-    requires { len ≤ length bytes.now }
-    ensures { result.now ≡ take len bytes.now }
-{
-    &bytes[..len]
 }
 
 fn with_body(request: Request, body: Octets) -> Request

@@ -83,7 +83,12 @@ fn framing_of(to_head: bool, status: u16, fields: &Fields) -> Framing
 
 // what a head says, or that it has a fault
 #[tactic(auto, unfolding(crate::specs::ResponseChecks::judge_response_fields))]
-pub(crate) fn check_response(alloc: Global, to_head: bool, status: u16, fields: Fields) -> JudgedResponse
+pub(crate) fn check_response(
+    alloc: Global,
+    to_head: bool,
+    status: u16,
+    fields: Fields,
+) -> JudgedResponse
     ensures { result ≡ judge_response_fields to_head status fields }
 {
     if status < 100 || status > 599 {

@@ -34,7 +34,11 @@ fn parse(text: &[u8], headers: &mut [HeaderSpan]) -> Option<ResponseSpans>
 }
 
 /// Checks the text of a head.
-pub(crate) fn judge_response_text(alloc: Global, to_head: bool, text: &[u8]) -> Result<JudgedResponse, OutOfMemory>
+pub(crate) fn judge_response_text(
+    alloc: Global,
+    to_head: bool,
+    text: &[u8],
+) -> Result<JudgedResponse, OutOfMemory>
     requires whole { head_len text.now ≡ Some (length text.now) }
     requires short { length text.now ≤ 16384 }
     ensures { IfOk result (λ judged. judged ≡ judge_response to_head text.now) }

@@ -1,4 +1,4 @@
-use Rattle.std.proofs.Common.{◌≡◌, ◌++◌, [], ℕ, List, length, drop, sym, subst, ◌∙◌}
+use Rattle.std.proofs.Common.{[], ℕ, List, length, drop, sym, subst, ◌∙◌}
 use Rattle.std.proofs.lemmas.List.{append-nil}
 use Rattle.httparse.specs.Grammar.{ReadsChunkLine, HasNoChunkLine}
 use Rattle.http_wire.proofs.ChunkLineLemmas.{chunk_line_reads, size_is}

@@ -1,4 +1,4 @@
-use Rattle.std.proofs.Common.{◌≡◌, ◌≤◌, length, ℕ, Option, Some, sym, ap, ◌∙◌, arith}
+use Rattle.std.proofs.Common.{◌≤◌, length, ℕ, Some, sym, ap, ◌∙◌, arith}
 use Rattle.http_wire.specs.Lines.{line_feeds}
 use Rattle.http_wire.specs.Fields.{fields_of}
 use Rattle.http_wire.specs.ResponseChecks.{judge_response_fields}

@@ -1,0 +1,32 @@
+//! Parts of the bytes that came.
+ghost use Rattle.std.specs.Prelude.{◌≡◌, ◌≤◌, length, take, drop};
+
+/// The most bytes of a head, with the empty lines before it.
+pub const HEAD_LIMIT: usize = 16_384;
+
+// the bytes in which a head must end
+pub(crate) fn window(bytes: &[u8]) -> &[u8]
+    ensures { result.now ≡ take 16384 bytes.now }
+{
+    if bytes.len() < HEAD_LIMIT {
+        bytes
+    } else {
+        &bytes[..HEAD_LIMIT]
+    }
+}
+
+// the first bytes
+pub(crate) fn front_of(bytes: &[u8], len: usize) -> &[u8]
+    requires { len ≤ length bytes.now }
+    ensures { result.now ≡ take len bytes.now }
+{
+    &bytes[..len]
+}
+
+// the bytes from a place on
+pub(crate) fn behind(bytes: &[u8], at: usize) -> &[u8]
+    requires { at ≤ length bytes.now }
+    ensures { result.now ≡ drop at bytes.now }
+{
+    &bytes[at..]
+}
