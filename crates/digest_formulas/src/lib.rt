@@ -85,22 +85,33 @@ mod tests {
         );
     }
 
-    /// Values that Python's hashlib gave: a session, a covered body, a server's value, a hidden name.
+    /// Values that Python's hashlib gave, of a session with a covered body.
     #[test]
-    fn values_of_another_program(rt: HostRuntime) {
+    fn session_values_of_another_program(rt: HostRuntime) {
         let secret = ha1(Algorithm::Sha256, NAME, REALM, PASSWORD);
         let session = session_ha1(Algorithm::Sha256, &secret, NONCE, CNONCE);
+        let qop = Qop::AuthInt;
         let sent = response(
             Algorithm::Sha256,
             &session,
             NONCE,
             NC,
             CNONCE,
-            Qop::AuthInt,
+            qop,
             b"PUT",
             URI,
             b"hello\n",
         );
+        let wanted = "bca21f4c7d7e8bf70d96361085370c7d219947abc1b8cd628f710917b89bed5b";
+        assert_eq!(rt; session.bytes(), wanted.as_bytes());
+        let wanted = "aca622932da75c65df8c53f9e4cc0f6affaaa2f6d2f3ec035aac6819c3e2f505";
+        assert_eq!(rt; sent.bytes(), wanted.as_bytes());
+    }
+
+    /// Values that Python's hashlib gave, of a server and of a hidden name.
+    #[test]
+    fn server_values_of_another_program(rt: HostRuntime) {
+        let secret = ha1(Algorithm::Sha256, NAME, REALM, PASSWORD);
         let server = rspauth(
             Algorithm::Sha256,
             &secret,
@@ -116,26 +127,9 @@ mod tests {
             "Jäsøn Doe".as_bytes(),
             b"api@example.org",
         );
-        let cases = [
-            (
-                session,
-                "bca21f4c7d7e8bf70d96361085370c7d219947abc1b8cd628f710917b89bed5b",
-            ),
-            (
-                sent,
-                "aca622932da75c65df8c53f9e4cc0f6affaaa2f6d2f3ec035aac6819c3e2f505",
-            ),
-            (
-                server,
-                "86d3b25618d41854ca5039a5d7e53ff6355d5134a9b1fb088a78ac3c462195a0",
-            ),
-            (
-                hidden,
-                "793263caabb707a56211940d90411ea4a575adeccb7e360aeb624ed06ece9b0b",
-            ),
-        ];
-        for (value, wanted) in &cases {
-            assert_eq!(rt; value.bytes(), wanted.as_bytes());
-        }
+        let wanted = "86d3b25618d41854ca5039a5d7e53ff6355d5134a9b1fb088a78ac3c462195a0";
+        assert_eq!(rt; server.bytes(), wanted.as_bytes());
+        let wanted = "793263caabb707a56211940d90411ea4a575adeccb7e360aeb624ed06ece9b0b";
+        assert_eq!(rt; hidden.bytes(), wanted.as_bytes());
     }
 }
