@@ -35,9 +35,6 @@ fn credentials(alloc: Global, text: &[u8]) -> Result<Octets, Fail> {
         Ok(item) => {
             let mut items = ItemList::new(alloc);
             items.push(item)?;
-            if !valid_items(&items) {
-                return Ok(Octets::of(alloc, b"not valid")?);
-            }
             Ok(write_items(alloc, &items, Quoting::Challenge)?)
         }
         Err(error) => refused(alloc, &error),
