@@ -260,7 +260,10 @@ param_to e s at n text h =
     let q = equals_to (ValueRest e s at n) r.1 r.4 in
     let u = skip_to is_white (ValueAlternatives e s at n) q.1 q.4 in
     let v = value_to e s at n u.1 u.4 in
-    (r.0, q.0, u.0, v.0, v.1, v.2, r.2 ∙ ap (λ (x : Text). r.0 ++ x) (q.2 ∙ ap (λ (x : Text). q.0 ∷ x) (u.2 ∙ ap (λ (x : Text). u.0 ++ x) v.3)), q.3, r.3, u.3, v.4, v.5, v.6)
+    (r.0, q.0, u.0, v.0, v.1, v.2, parts text r.0 r.1 q.0 q.1 u.0 u.1 (v.0 ++ v.2) r.2 q.2 u.2 v.3, q.3, r.3, u.3, v.4, v.5, v.6)
+  where
+    parts : (text before behind : Text) (q : Spot) (more after value end : Text) → text ≡ before ++ behind → behind ≡ q ∷ more → more ≡ after ++ value → value ≡ end → text ≡ before ++ q ∷ (after ++ end)
+    parts text before behind q more after value end a b c d = cc
 
 abbrev IsSolid : Element → Type 0
 IsSolid Blank = ⊥

@@ -1,14 +1,13 @@
 -- What a text spells can be written.
-use Rattle.std.proofs.Common.{◌≡◌, ℕ, Bool, true, false, ◌&&◌, ◌||◌, ◌==◌, not, inl, inr, List, [], ◌∷◌, ◌++◌, Option, Some, None, refl, ap, sym, ◌∙◌, subst, IsTrue, map, ◌+◌, ◌<◌, nat_lt, length, drop, suc, arith, cond}
-use Rattle.std.specs.List.{list_all, prefix_len}
+use Rattle.std.proofs.Common.{◌≡◌, ℕ, Bool, true, false, ◌&&◌, ◌==◌, not, inl, inr, List, [], ◌∷◌, ◌++◌, Option, Some, None, refl, ap, sym, ◌∙◌, subst, IsTrue, map, ◌+◌, ◌<◌, nat_lt, length, drop, arith}
+use Rattle.std.specs.List.{list_all}
 use Rattle.std.proofs.lemmas.Bool.Decides.{Decides-ltb, Decides-eqb}
 use Rattle.std.proofs.Math.Numerals.{one-add}
 use Rattle.std.proofs.Math.Seq.{drop-append_seam}
 use Rattle.auth_grammar.specs.Kinds.{kind_of, is_token, is_token68, is_equals, is_escapable, is_quotable}
 use Rattle.auth_grammar.specs.declared.kinds.Kind.{Kind}
-use Rattle.auth_grammar.specs.declared.kinds.Kind.TheVariants.{Comma, Space, Tab, Equals, Quote, Backslash, Slash, Plain, Mark, Quotable, Control}
+use Rattle.auth_grammar.specs.declared.kinds.Kind.TheVariants.{Equals, Control}
 use Rattle.auth_grammar.specs.declared.items.Param.{Param}
-use Rattle.auth_grammar.specs.declared.items.Item.{Item}
 use Rattle.auth_grammar.specs.declared.grammar.Grammar.{Grammar}
 use Rattle.auth_grammar.specs.declared.elements.Element.{Element}
 use Rattle.auth_grammar.specs.declared.elements.Element.TheVariants.{Blank, Scheme, SchemeToken68, SchemeParam, Further}
@@ -16,11 +15,11 @@ use Rattle.auth_grammar.specs.declared.groups.Placed.{Placed}
 use Rattle.auth_grammar.specs.declared.groups.Group.{Group}
 use Rattle.auth_grammar.specs.declared.groups.Group.TheVariants.{WithParams, WithToken68}
 use Rattle.auth_grammar.specs.declared.groups.Grouped.{Grouped}
-use Rattle.auth_grammar.specs.Grammar.{Spot, Text, spots, bytes, AllOf, SomeOf, IsToken68, Quotes, IsValue, IsParam, IsForm, IsElement, Splits}
-use Rattle.auth_grammar.specs.Items.{placed, with_element, with_token68, grouping, unplaced, item_of, Spells}
+use Rattle.auth_grammar.specs.Grammar.{Text, spots, bytes, AllOf, SomeOf, IsToken68, Quotes, IsValue, IsParam, IsForm, Splits}
+use Rattle.auth_grammar.specs.Items.{with_element, with_token68, grouping, unplaced, item_of, Spells}
 use Rattle.auth_grammar.specs.Names.{has_repeat}
 use Rattle.auth_grammar.specs.Repeats.{AreSingle, lists_in, params_in}
-use Rattle.auth_grammar.specs.Valid.{is_token_text, token68_len, is_token68_text, is_quotable_text, is_valid_param, are_valid_params, is_valid_rest, is_valid}
+use Rattle.auth_grammar.specs.Valid.{is_token_text, token68_len, is_token68_text, is_quotable_text, is_valid_param, are_valid_params, is_valid}
 use Rattle.std.proofs.lemmas.List.Elements.{All-head, All-tail}
 use Rattle.auth_grammar.proofs.FormReadings.{both, bytes_append, equals_is}
 

@@ -1,3 +1,4 @@
+-- What is collected of a list of elements, from its first on.
 use Rattle.std.specs.Prelude.{◌≡◌, Bool, true, false, List, [], ◌∷◌, ◌++◌, Option, Some, None, option_map}
 use Rattle.auth_grammar.specs.declared.elements.Element.{Element}
 use Rattle.auth_grammar.specs.declared.elements.Element.TheVariants.{Blank, Scheme, SchemeToken68, SchemeParam, Further}

@@ -1,3 +1,4 @@
+-- Challenges that come in pieces.
 use Rattle.std.specs.Prelude.{◌≡◌, ℕ, ◌<◌, List, ◌++◌, Option, Some, None, Result, Ok, Err, length}
 use Rattle.auth_grammar.specs.declared.error.GrammarError.{GrammarError}
 use Rattle.auth_grammar.specs.declared.error.GrammarError.TheVariants.{NotGrammar, Twice, OutOfMemory}

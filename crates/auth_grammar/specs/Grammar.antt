@@ -1,3 +1,4 @@
+-- The forms of an element, and of a list of elements (RFC 9110 sections 5.6 and 11). Every byte knows its place, so that names do.
 use Rattle.std.specs.Prelude.{◌≡◌, ℕ, Bool, ◌⊎◌, ◌+◌, List, [], ◌∷◌, ◌++◌, IsTrue}
 use Rattle.auth_grammar.specs.declared.kinds.Kind.{Kind}
 use Rattle.auth_grammar.specs.Kinds.{kind_of, is_token, is_token68, is_white, is_space, is_equals, is_quotable, is_escapable}

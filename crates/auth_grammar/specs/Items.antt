@@ -1,3 +1,4 @@
+-- What elements spell: items and parameters (RFC 9110 section 11).
 use Rattle.std.specs.Prelude.{◌≡◌, ℕ, List, [], ◌∷◌, Option, Some, None, map}
 use Rattle.auth_grammar.specs.declared.items.Param.{Param}
 use Rattle.auth_grammar.specs.declared.items.Item.{Item}

@@ -1,3 +1,4 @@
+-- The kinds of byte that the grammar tells apart.
 use Rattle.std.specs.Prelude.{ℕ, ◌==◌, Bool, true, false, nat_lt, nat_le, ◌||◌, ◌&&◌, if◌then◌else◌}
 use Rattle.auth_grammar.specs.declared.kinds.Kind.{Kind}
 use Rattle.auth_grammar.specs.declared.kinds.Kind.TheVariants.{Comma, Space, Tab, Equals, Quote, Backslash, Slash, Plain, Mark, Quotable, Control}
@@ -42,26 +43,32 @@ is_white Space = true
 is_white Tab = true
 is_white _ = false
 
+-- a space
 abbrev pub is_space : Kind → Bool
 is_space Space = true
 is_space _ = false
 
+-- a tab
 abbrev pub is_tab : Kind → Bool
 is_tab Tab = true
 is_tab _ = false
 
+-- `=`
 abbrev pub is_equals : Kind → Bool
 is_equals Equals = true
 is_equals _ = false
 
+-- a double quote
 abbrev pub is_quote : Kind → Bool
 is_quote Quote = true
 is_quote _ = false
 
+-- a backslash
 abbrev pub is_backslash : Kind → Bool
 is_backslash Backslash = true
 is_backslash _ = false
 
+-- a comma
 abbrev pub is_comma : Kind → Bool
 is_comma Comma = true
 is_comma _ = false

@@ -1,3 +1,4 @@
+-- Names of schemes and parameters, which are compared without regard to the case of ASCII letters.
 use Rattle.std.specs.Prelude.{ℕ, Bool, false, ◌||◌, List, [], ◌∷◌, Option, find, map, option_map}
 use Rattle.std.specs.List.{list_any}
 use Rattle.std.specs.Char.{to_ascii_lowercase}

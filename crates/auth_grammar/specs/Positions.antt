@@ -1,3 +1,4 @@
+-- A position stands for the one or two readings that are left of an element. Here is what it means that the table of turns is right.
 use Rattle.std.specs.Prelude.{◌≡◌, ℕ, Bool, ◌⊎◌, List, [], ◌∷◌, ◌++◌, Option, Some, None, IsSome, unwrap_or}
 use Rattle.auth_grammar.specs.Kinds.{kind_of}
 use Rattle.auth_grammar.specs.Grammar.{Spot}
@@ -15,6 +16,7 @@ use Rattle.auth_grammar.specs.declared.position.Turn.TheVariants as To
 use Rattle.auth_grammar.specs.declared.position.Effect.{Effect}
 use Rattle.auth_grammar.specs.declared.position.Effect.TheVariants as Keep
 
+-- the scheme before a second word
 abbrev pub first_of : Kept → List ℕ
 first_of w = unwrap_or w.scheme []
 

@@ -1,3 +1,4 @@
+-- How far a text of a grammar could go on.
 use Rattle.std.specs.Prelude.{ℕ, ◌≤◌, ◌<◌, List, ◌++◌, length, take}
 
 -- some text of the grammar begins so

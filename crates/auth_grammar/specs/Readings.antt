@@ -1,3 +1,5 @@
+-- An element byte by byte. A reading is one way to understand the bytes that have come of an element; its meaning is which
+-- element it makes with the bytes that are left.
 use Rattle.std.specs.Prelude.{◌≡◌, ℕ, Bool, true, false, cond, ◌&&◌, ◌⊎◌, List, [], ◌∷◌, ◌++◌, IsTrue, Option, Some, None}
 use Rattle.auth_grammar.specs.declared.kinds.Kind.{Kind}
 use Rattle.auth_grammar.specs.Kinds.{kind_of, is_token, is_token68, is_white, is_space, is_tab, is_equals, is_quotable, is_escapable, is_quote, is_backslash}
@@ -79,9 +81,11 @@ pub data Reading : Type 0 where
 abbrev pub Trail : Element → Element → Text → Type 0
 Trail e made = Skip is_white (Ends (made ≡ e))
 
+-- the `=` at the end of a token68 or a loose value
 abbrev pub Pads : Element → (List ℕ → Element) → List ℕ → Text → Type 0
 Pads e made = Run is_equals (λ text. Trail e (made text))
 
+-- what comes behind the `=` of a parameter
 abbrev pub ValueRest : Element → Option (List ℕ) → ℕ → List ℕ → Text → Type 0
 ValueRest e s at n =
     Skip is_white (Begin is_token (λ _ v. Trail e (with_value s at n v))
@@ -89,16 +93,19 @@ ValueRest e s at n =
     (One is_quote (Within (λ v. Trail e (with_value s at n v)) false [])
     (Ends ⊥))))
 
+-- what comes behind the name of a parameter
 abbrev pub NameRest : Element → Option (List ℕ) → ℕ → List ℕ → Text → Type 0
 NameRest e s at n = Skip is_white (One is_equals (ValueRest e s at n) (Ends ⊥))
 
--- nothing, or a tab and white space
+-- what comes behind a scheme and spaces where nothing else does: nothing, or a tab and white space
 abbrev pub TabRest : Element → List ℕ → Text → Type 0
 TabRest e s = One is_tab (Trail e (Scheme s)) (Ends (Scheme s ≡ e))
 
+-- what comes behind a scheme and a space
 abbrev pub SpaceRest : Element → List ℕ → Text → Type 0
 SpaceRest e s = Skip is_space (Begin is_token68 (λ _. Pads e (SchemeToken68 s)) (Begin is_token (NameRest e (Some s)) (TabRest e s)))
 
+-- what comes behind a scheme
 abbrev pub SchemeRest : Element → List ℕ → Text → Type 0
 SchemeRest e s = One is_space (SpaceRest e s) (TabRest e s)
 
@@ -136,19 +143,22 @@ moves k b (InQuotes s at n v) = (is_quote k, Trailing (with_value s at n v)) ∷
 moves k b (Escaped s at n v) = (is_escapable k, InQuotes s at n (v ++ b.byte ∷ [])) ∷ []
 moves k b (Trailing made) = (is_white k, Trailing made) ∷ []
 
--- some reading is left, and the bytes make this element of it
+-- the bytes make this element of one of the readings whose tests say so
 abbrev pub Guarded : Element → List (Bool × Reading) → Text → Type 0
 Guarded e [] text = ⊥
 Guarded e (g ∷ gs) text = (IsTrue g.0 × Means e g.1 text) ⊎ Guarded e gs text
 
+-- the bytes make this element of one of the readings
 abbrev pub AnyMeans : Element → List Reading → Text → Type 0
 AnyMeans e [] text = ⊥
 AnyMeans e (r ∷ rs) text = Means e r text ⊎ AnyMeans e rs text
 
+-- the readings whose tests say so
 abbrev pub kept : List (Bool × Reading) → List Reading
 kept [] = []
 kept (g ∷ gs) = cond g.0 (g.1 ∷ kept gs) (kept gs)
 
+-- the readings after one more byte
 abbrev pub after : Kind → Spot → List Reading → List Reading
 after k b [] = []
 after k b (r ∷ rs) = kept (moves k b r) ++ after k b rs

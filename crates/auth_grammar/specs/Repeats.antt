@@ -1,3 +1,4 @@
+-- Names that come twice.
 use Rattle.std.specs.Prelude.{◌≡◌, false, List, [], ◌∷◌, ◌++◌, IsTrue, map, All}
 use Rattle.auth_grammar.specs.declared.items.Item.{Item}
 use Rattle.auth_grammar.specs.declared.groups.Placed.{Placed}

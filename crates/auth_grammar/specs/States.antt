@@ -1,3 +1,4 @@
+-- The meaning of a reader's state: which texts go on from it, and what they spell.
 use Rattle.std.specs.Prelude.{◌≡◌, ℕ, Bool, List, [], ◌∷◌, ◌++◌, length}
 use Rattle.auth_grammar.specs.declared.kept.Kept.{Kept}
 use Rattle.auth_grammar.specs.declared.position.Position.{Position}
@@ -7,14 +8,21 @@ use Rattle.auth_grammar.specs.Readings.{Allowed, Reading, AnyMeans}
 use Rattle.auth_grammar.specs.Readings.Reading.{Start}
 use Rattle.auth_grammar.specs.Positions.{readings}
 
--- what lists of elements make
+-- how a list of elements is collected
 pub record Rules : Type 1 where
+  -- what was collected so far
   pub Made : Type 0
+  -- what a whole list makes
   pub X : Type 0
+  -- nothing yet
   pub begun : Made
+  -- whether a parameter may come
   pub params : Made → Bool
+  -- whether a scheme may come
   pub schemes : Made → Bool
+  -- one element more
   pub add : Made → Element → Made
+  -- what was collected, and then these elements, make x
   pub Goes : Made → List Element → X → Type 0
 
 -- the text goes on with an element that was begun

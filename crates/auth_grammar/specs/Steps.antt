@@ -1,3 +1,4 @@
+-- What one byte, and the end of a text, do to a reader.
 use Rattle.std.specs.Prelude.{◌≡◌, ℕ, Bool, true, false, Option, Some, None, Result, Ok, Err}
 use Rattle.auth_grammar.specs.Kinds.{kind_of}
 use Rattle.auth_grammar.specs.Grammar.{Spot}

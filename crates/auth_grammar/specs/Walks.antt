@@ -1,3 +1,4 @@
+-- A reader that keeps nothing but what may come next.
 use Rattle.std.specs.Prelude.{◌≡◌, ℕ, ◌+◌, ◌<◌, Bool, true, false, List, ◌++◌, Option, Some, None, Result, Ok, Err, length}
 use Rattle.auth_grammar.specs.declared.collected.Collected.{Collected}
 use Rattle.auth_grammar.specs.declared.collected.Collected.TheVariants.{Bare, Many, One}

@@ -1,5 +1,5 @@
 //! What is kept of an element that has begun.
-ghost use Rattle.std.specs.Prelude.{◌≡◌, OnOk};
+ghost use Rattle.std.specs.Prelude.{◌≡◌, [], OnOk};
 ghost use Rattle.auth_grammar.specs.Positions.{kept_after};
 
 use crate::octets::{Octets, OutOfMemory};
@@ -21,7 +21,9 @@ pub struct Kept {
 
 impl Kept {
     /// Nothing yet.
-    pub fn new(alloc: Global) -> Kept {
+    pub fn new(alloc: Global) -> Kept
+        ensures { result ≡ record { scheme = None; word = []; at = 0; value = [] } }
+    {
         Kept {
             scheme: None,
             word: Octets::new(alloc),

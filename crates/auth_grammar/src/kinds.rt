@@ -51,25 +51,25 @@ impl Kind {
 pub fn kind_at(b: u8) -> Kind
     ensures { result ≡ kind_of b }
 {
-    if b == 44 {
+    if b == b',' {
         Kind::Comma
-    } else if b == 32 {
+    } else if b == b' ' {
         Kind::Space
-    } else if b == 9 {
+    } else if b == b'\t' {
         Kind::Tab
-    } else if b == 61 {
+    } else if b == b'=' {
         Kind::Equals
-    } else if b == 34 {
+    } else if b == b'"' {
         Kind::Quote
-    } else if b == 92 {
+    } else if b == b'\\' {
         Kind::Backslash
-    } else if b == 47 {
+    } else if b == b'/' {
         Kind::Slash
     } else if is_plain(b) {
         Kind::Plain
     } else if is_mark(b) {
         Kind::Mark
-    } else if b < 32 || b == 127 {
+    } else if b < b' ' || b == 127 {
         Kind::Control
     } else {
         Kind::Quotable
@@ -80,21 +80,21 @@ pub fn kind_at(b: u8) -> Kind
 fn is_plain(b: u8) -> bool
     ensures { result ≡ is_plain_byte b }
 {
-    b.is_ascii_alphanumeric() || b == 45 || b == 46 || b == 95 || b == 126 || b == 43
+    b.is_ascii_alphanumeric() || b == b'-' || b == b'.' || b == b'_' || b == b'~' || b == b'+'
 }
 
 #[tactic(auto, unfolding(crate::specs::Kinds::is_mark_byte))]
 fn is_mark(b: u8) -> bool
     ensures { result ≡ is_mark_byte b }
 {
-    b == 33
-        || b == 35
-        || b == 36
-        || b == 37
-        || b == 38
-        || b == 39
-        || b == 42
-        || b == 94
-        || b == 96
-        || b == 124
+    b == b'!'
+        || b == b'#'
+        || b == b'$'
+        || b == b'%'
+        || b == b'&'
+        || b == b'\''
+        || b == b'*'
+        || b == b'^'
+        || b == b'`'
+        || b == b'|'
 }
