@@ -1,2 +1,4 @@
 pub mod Names
 pub mod Replies
+pub mod Serving
+pub mod Laws

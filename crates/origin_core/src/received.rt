@@ -1,19 +1,19 @@
 //! A request that came, and when.
 use http_wire::Request;
 
-/// The same as a value. Contracts alone have it.
-#[derive(Drop)]
-pub struct Task {
-    pub request: Request,
-    pub last: bool,
-    pub moment: u64,
-}
-
 /// A request that is answered, with its moment, in seconds since 1970, and whether the connection closes after its
 /// reply.
 #[derive(Clone, Copy)]
 pub struct Received<'q> {
     pub request: &'q Request,
+    pub last: bool,
+    pub moment: u64,
+}
+
+/// The same as a value. Contracts alone have it.
+#[derive(Drop)]
+pub struct Task {
+    pub request: Request,
     pub last: bool,
     pub moment: u64,
 }
