@@ -82,137 +82,115 @@ fn read_bytes(alloc: Global, to_head: bool, text: &[u8]) -> Result<String, Fail>
     finish(told)
 }
 
-// each text behind a front, whole, in two pieces at every place, and byte by byte
+// A row is a text and what it is, each ended by a NUL.
+const FRAMED_BY_LENGTH: &[u8] = b"\
+    HTTP/1.1\0end bad 0\0\
+    HTTP/1.1 200 O\0end bad 0\0\
+    HTTP/1.1 200 OK\r\nContent-Length: 2\r\n\r\nok\0200 ok end bad 40\0\
+    HTTP/1.1 200 OK\r\nContent-Length: 3\r\n\r\nok\0end bad 38\0\
+    HTTP/1.1 200\nContent-Length: 2\n\nokHTTP/1.0 404 \n\nno\0200 ok end 404 no\0\
+    HTTP/1.1 204 \r\nContent-Length: 5\r\n\r\n\0204  end bad 36\0\
+    HTTP/1.1 304 \r\nTransfer-Encoding: chunked\r\n\r\n\0304  end bad 45\0\
+    HTTP/1.1 100 Continue\r\n\r\nHTTP/1.1 103 \r\nLink: x\r\n\r\nHTTP/1.1 204 \r\n\r\n\0204  end bad 68\0\
+    HTTP/1.1 204 OK\r\nContent-Length: 99999999999999999999\r\n\r\n\0204  end bad 57\0\
+    HTTP/1.1 200 OK\r\nContent-Length: 99999999999999999999\r\n\r\n\0bad 57\0\
+    HTTP/1.1 200 OK\r\nContent-Length: 16777217\r\n\r\n\0bad 45\0\
+    HTTP/1.1 200 OK\r\nContent-Length: 16777216\r\n\r\n\0end bad 45\0\
+    HTTP/1.1 100 \r\n\r\nHTTP/1.1 2OO \r\n\r\n\0bad 17\0\
+    HTTP/1.1 100 \r\nContent-Length: x\r\n\r\n\0bad 0\0\
+    HTTP/1.1 099 \r\n\r\n\0bad 0\0\
+    HTTP/1.1 600 \r\n\r\n\0bad 0\0\
+";
+
+const REFUSED_HEADS: &[u8] = b"\
+    HTTP/1.1 20 \r\n\r\n\0bad 0\0\
+    HTTP/1.1 200 OK\r\nX : y\r\n\r\n\0bad 0\0\
+    HTTP/1.1 200 OK\r\nContent-Length:\r\n\r\n\0bad 0\0\
+    HTTP/1.1 200 OK\r\nContent-Length: 1\r\nContent-Length: 1\r\n\r\n\0bad 0\0\
+    HTTP/1.1 204 OK\r\nContent-Length: -1\r\n\r\n\0bad 0\0\
+    HTTP/1.1 200 OK\r\nTransfer-Encoding: gzip\r\n\r\n\0bad 0\0\
+    HTTP/1.1 204 OK\r\nTransfer-Encoding:\r\n\r\n\0bad 0\0\
+    HTTP/1.1 200 OK\r\nTransfer-Encoding: chunked\r\nTransfer-Encoding: chunked\r\n\r\n\0bad 0\0\
+    HTTP/1.1 200 OK\r\nTransfer-Encoding: gzip, chunked\r\n\r\n\0bad 0\0\
+";
+
+const CHUNKED_HEAD: &[u8] =
+    b"HTTP/1.1 200 OK\r\nContent-Length: 9\r\nTransfer-Encoding: Chunked\r\n\r\n";
+
+// what follows that head of 66 bytes
+const CHUNKED: &[u8] = b"\
+    2\r\nok\r\n0\r\n\r\n\0200 ok end bad 78\0\
+    1;a=\"b\"\r\no\r\n01 \t\r\nk\r\n0\r\nX: y\r\nz\n\n\0200 ok end bad 99\0\
+    a\r\n0123456789\r\n00;\r\n\n\0200 0123456789 end bad 87\0\
+    0\r\n\r\nHTTP/1.1 201 \r\n\r\nok\0200  end 201 ok\0\
+    \0end bad 66\0\
+    2\r\nok\0end bad 66\0\
+    2\r\nok\r\0end bad 66\0\
+    2\r\nok\r\n0\r\nX: y\r\n\0end bad 66\0\
+    x\0bad 66\0\
+    \r\n\0bad 66\0\
+    2\nok\n\0bad 66\0\
+    2;a\nb\0bad 66\0\
+    2 3\r\n\0bad 66\0\
+    00000000000000002\r\n\0bad 66\0\
+    2\r\nok\r\n-\r\n\0bad 73\0\
+    2\r\nokX\0bad 66\0\
+    2\r\nok\r\n3\r\nabc\rX\0bad 73\0\
+    1000001\r\n\0bad 66\0\
+    1\r\no\r\n1000000\r\n\0bad 66\0\
+    1\r\no\r\nffffffffffffffff\r\n\0bad 66\0\
+";
+
+// to the method HEAD
+const TO_HEAD: &[u8] = b"\
+    \r\nHTTP/1.1 200 OK\r\nContent-Length: 5\r\n\r\n\0200  end bad 40\0\
+    \r\nHTTP/1.1 200 OK\r\nTransfer-Encoding: chunked\r\n\r\n\0200  end bad 49\0\
+    \r\n\nHTTP/1.1 200 OK\r\n\r\n\0bad 0\0\
+";
+
+// a text whole, in two pieces at every place, and byte by byte
+fn read_row(
+    rt: &impl Abort,
+    alloc: Global,
+    to_head: bool,
+    text: &[u8],
+    want: &[u8],
+) -> Result<(), Fail> {
+    for at in 0..=text.len() {
+        let words = read_cut(alloc, to_head, &text[..at], &text[at..])?;
+        assert_eq!(rt; words.trim().as_bytes(), want, "cut at {at}");
+    }
+    let words = read_bytes(alloc, to_head, text)?;
+    assert_eq!(rt; words.trim().as_bytes(), want);
+    Ok(())
+}
+
+// the rows of a table, each text behind a front
 fn read_rows(
     rt: &impl Abort,
     alloc: Global,
     to_head: bool,
     front: &[u8],
-    rows: &[(&[u8], &str)],
+    table: &[u8],
 ) -> Result<(), Fail> {
-    for (rest, want) in rows {
-        let text = repeated(alloc, front, rest, 1, b"")?;
-        for at in 0..=text.len() {
-            let words = read_cut(alloc, to_head, &text.bytes()[..at], &text.bytes()[at..])?;
-            assert_eq!(rt; words.trim(), *want, "cut at {at}");
+    let mut rest: &[u8] = b"";
+    for (i, part) in table.split(|b| *b == 0).enumerate() {
+        if i % 2 == 0 {
+            rest = part;
+        } else {
+            let text = repeated(alloc, front, rest, 1, b"")?;
+            read_row(rt, alloc, to_head, text.bytes(), part)?;
         }
-        let words = read_bytes(alloc, to_head, text.bytes())?;
-        assert_eq!(rt; words.trim(), *want);
     }
     Ok(())
 }
 
 #[test]
-fn lengths_frame_responses_in_any_cutting(rt: HostRuntime) -> Result<(), Fail> {
-    let rows: [(&[u8], &str); 16] = [
-        (b"", "end bad 0"),
-        (b" 200 O", "end bad 0"),
-        (
-            b" 200 OK\r\nContent-Length: 2\r\n\r\nok",
-            "200 ok end bad 40",
-        ),
-        (b" 200 OK\r\nContent-Length: 3\r\n\r\nok", "end bad 38"),
-        (
-            b" 200\nContent-Length: 2\n\nokHTTP/1.0 404 \n\nno",
-            "200 ok end 404 no",
-        ),
-        (b" 204 \r\nContent-Length: 5\r\n\r\n", "204  end bad 36"),
-        (
-            b" 304 \r\nTransfer-Encoding: chunked\r\n\r\n",
-            "304  end bad 45",
-        ),
-        (
-            b" 100 Continue\r\n\r\nHTTP/1.1 103 \r\nLink: x\r\n\r\nHTTP/1.1 204 \r\n\r\n",
-            "204  end bad 68",
-        ),
-        (
-            b" 204 OK\r\nContent-Length: 99999999999999999999\r\n\r\n",
-            "204  end bad 57",
-        ),
-        (
-            b" 200 OK\r\nContent-Length: 99999999999999999999\r\n\r\n",
-            "bad 57",
-        ),
-        (b" 200 OK\r\nContent-Length: 16777217\r\n\r\n", "bad 45"),
-        (b" 200 OK\r\nContent-Length: 16777216\r\n\r\n", "end bad 45"),
-        (b" 100 \r\n\r\nHTTP/1.1 2OO \r\n\r\n", "bad 17"),
-        (b" 100 \r\nContent-Length: x\r\n\r\n", "bad 0"),
-        (b" 099 \r\n\r\n", "bad 0"),
-        (b" 600 \r\n\r\n", "bad 0"),
-    ];
-    read_rows(&rt, rt.alloc(), false, b"HTTP/1.1", &rows)
-}
-
-#[test]
-fn heads_are_refused_in_any_cutting(rt: HostRuntime) -> Result<(), Fail> {
-    let rows: [(&[u8], &str); 9] = [
-        (b" 20 \r\n\r\n", "bad 0"),
-        (b" 200 OK\r\nX : y\r\n\r\n", "bad 0"),
-        (b" 200 OK\r\nContent-Length:\r\n\r\n", "bad 0"),
-        (
-            b" 200 OK\r\nContent-Length: 1\r\nContent-Length: 1\r\n\r\n",
-            "bad 0",
-        ),
-        (b" 204 OK\r\nContent-Length: -1\r\n\r\n", "bad 0"),
-        (b" 200 OK\r\nTransfer-Encoding: gzip\r\n\r\n", "bad 0"),
-        (b" 204 OK\r\nTransfer-Encoding:\r\n\r\n", "bad 0"),
-        (
-            b" 200 OK\r\nTransfer-Encoding: chunked\r\nTransfer-Encoding: chunked\r\n\r\n",
-            "bad 0",
-        ),
-        (
-            b" 200 OK\r\nTransfer-Encoding: gzip, chunked\r\n\r\n",
-            "bad 0",
-        ),
-    ];
-    read_rows(&rt, rt.alloc(), false, b"HTTP/1.1", &rows)
-}
-
-#[test]
-fn one_empty_line_may_stand_before_a_head(rt: HostRuntime) -> Result<(), Fail> {
-    let rows: [(&[u8], &str); 3] = [
-        (
-            b"HTTP/1.1 200 OK\r\nContent-Length: 5\r\n\r\n",
-            "200  end bad 40",
-        ),
-        (
-            b"HTTP/1.1 200 OK\r\nTransfer-Encoding: chunked\r\n\r\n",
-            "200  end bad 49",
-        ),
-        (b"\nHTTP/1.1 200 OK\r\n\r\n", "bad 0"),
-    ];
-    read_rows(&rt, rt.alloc(), true, b"\r\n", &rows)
-}
-
-#[test]
-fn chunks_make_a_body_in_any_cutting(rt: HostRuntime) -> Result<(), Fail> {
-    let rows: [(&[u8], &str); 20] = [
-        (b"2\r\nok\r\n0\r\n\r\n", "200 ok end bad 78"),
-        (
-            b"1;a=\"b\"\r\no\r\n01 \t\r\nk\r\n0\r\nX: y\r\nz\n\n",
-            "200 ok end bad 99",
-        ),
-        (b"a\r\n0123456789\r\n00;\r\n\n", "200 0123456789 end bad 87"),
-        (b"0\r\n\r\nHTTP/1.1 201 \r\n\r\nok", "200  end 201 ok"),
-        (b"", "end bad 66"),
-        (b"2\r\nok", "end bad 66"),
-        (b"2\r\nok\r", "end bad 66"),
-        (b"2\r\nok\r\n0\r\nX: y\r\n", "end bad 66"),
-        (b"x", "bad 66"),
-        (b"\r\n", "bad 66"),
-        (b"2\nok\n", "bad 66"),
-        (b"2;a\nb", "bad 66"),
-        (b"2 3\r\n", "bad 66"),
-        (b"00000000000000002\r\n", "bad 66"),
-        (b"2\r\nok\r\n-\r\n", "bad 73"),
-        (b"2\r\nokX", "bad 66"),
-        (b"2\r\nok\r\n3\r\nabc\rX", "bad 73"),
-        (b"1000001\r\n", "bad 66"),
-        (b"1\r\no\r\n1000000\r\n", "bad 66"),
-        (b"1\r\no\r\nffffffffffffffff\r\n", "bad 66"),
-    ];
-    let head = b"HTTP/1.1 200 OK\r\nContent-Length: 9\r\nTransfer-Encoding: Chunked\r\n\r\n";
-    read_rows(&rt, rt.alloc(), false, head.as_slice(), &rows)
+fn responses_are_the_same_in_any_cutting(rt: HostRuntime) -> Result<(), Fail> {
+    read_rows(&rt, rt.alloc(), false, b"", FRAMED_BY_LENGTH)?;
+    read_rows(&rt, rt.alloc(), false, b"", REFUSED_HEADS)?;
+    read_rows(&rt, rt.alloc(), false, CHUNKED_HEAD, CHUNKED)?;
+    read_rows(&rt, rt.alloc(), true, b"", TO_HEAD)
 }
 
 // heads, chunk lines and trailers of 16,384 bytes pass, and one byte more does not
