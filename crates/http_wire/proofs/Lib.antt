@@ -10,8 +10,8 @@ pub mod ChunkLineLemmas
 pub mod SearchLemmas
 pub mod RequestFeedLemmas
 pub mod DateLemmas
-pub mod RequestRunLemmas
 pub mod FieldSizeLemmas
 pub mod StatusLemmas
 pub mod ResponseLaws
 pub mod ResponseFeedLemmas
+pub mod StreamLemmas

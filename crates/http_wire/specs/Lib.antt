@@ -13,7 +13,6 @@ pub mod ParsedResponse
 pub mod Search
 pub mod RequestPhase
 pub mod RequestFeed
-pub mod RequestRuns
 pub mod Dates
 pub mod FieldLines
 pub mod Answers
@@ -22,3 +21,4 @@ pub mod ChunkLine
 pub mod Responses
 pub mod ResponseFeed
 pub mod ResponseSteps
+pub mod Streams

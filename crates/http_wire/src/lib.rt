@@ -20,6 +20,7 @@ mod response_head;
 mod response_stage;
 mod response_step;
 mod search;
+mod streams;
 mod text;
 mod unread;
 mod values;
@@ -32,6 +33,7 @@ pub use request_feed::RequestFeed;
 pub use request_text::write_request;
 pub use response::{NextResponse, Response};
 pub use response_feed::ResponseFeed;
+pub use streams::{requests_of, response_of};
 
 #[cfg(test)]
 mod tests;

@@ -3,8 +3,6 @@ ghost use Rattle.std.specs.Prelude.{if◌then◌else◌, Bool, IsTrue, ◌↔◌
 ghost use Rattle.http_wire.specs.Search.{Tracks};
 ghost use Rattle.http_wire.specs.RequestPhase.{IsPhase, IsSettled, is_stopped};
 ghost use Rattle.http_wire.specs.RequestFeed.{Gives, pushed, Held};
-ghost use Rattle.std.specs.List.{concat};
-ghost use Rattle.http_wire.specs.RequestRuns.{Takes, IsAllOf};
 ghost use Rattle.http_wire.specs.Requests.{with_body, begun_at};
 
 use crate::front::{HEAD_LIMIT, behind, front_of, window};
@@ -201,38 +199,4 @@ fn with_body(request: Request, body: Octets) -> Request
     ensures { result ≡ with_body request body }
 {
     Request { body, ..request }
-}
-
-/// The requests of a stream that comes in these pieces, up to the first bad one.
-pub fn requests_of(alloc: Global, pieces: &[Octets]) -> Result<Vec<Request>, OutOfMemory>
-    requires { length (concat pieces.now) < 2 ^ 63 }
-    // However the stream was cut into pieces, these are its messages, and no whole one stands behind them.
-    ensures { IfOk result (λ requests. IsAllOf (concat pieces.now) requests.items) }
-{
-    let mut feed = RequestFeed::new(alloc);
-    let mut requests = Vec::new(alloc);
-    for piece in pieces {
-        feed.push(piece.bytes())?;
-        let on = take_whole(&mut feed, &mut requests)?;
-        if !on {
-            return Ok(requests);
-        }
-    }
-    Ok(requests)
-}
-
-// takes all whole messages; whether no bad one stands behind them
-fn take_whole(feed: &mut RequestFeed, requests: &mut Vec<Request>) -> Result<bool, OutOfMemory>
-    requires { feed.old.stopped ≡ false }
-    ensures { IfOk result (Takes feed.old feed.new requests.old.items requests.new.items) }
-{
-    loop {
-        match feed.next() {
-            Next::Message(request) => requests.push(request)?,
-            Next::Continue => {}
-            Next::NeedMore => return Ok(true),
-            Next::Bad { .. } => return Ok(false),
-            Next::OutOfMemory => return Err(OutOfMemory),
-        }
-    }
 }

@@ -1,7 +1,7 @@
 use Rattle.std.proofs.Common.{◌+◌, ◌<◌, ◌^◌, length, List, ℕ, sym, ap, ◌∙◌, subst}
 use Rattle.http_wire.specs.RequestFeed.{pushed}
-use Rattle.http_wire.proofs.RequestRunLemmas.{between_none, between_more, all_wrong, push_fits}
-use Rattle.http_wire.proofs.request_feed.requests_of.Goals as goal
+use Rattle.http_wire.proofs.StreamLemmas.{between_none, between_more, all_wrong, push_fits}
+use Rattle.http_wire.proofs.streams.requests_of.Goals as goal
 
 pub loop-piece-init : goal.loop-piece-init
 loop-piece-init c = between_none c.new-feed.result c.new-requests.result.items c.new-feed.ensures c.new-requests.ensures.items

@@ -1,6 +1,6 @@
 use Rattle.std.proofs.Common.{◌+◌, ◌*◌, length, cond}
-use Rattle.http_wire.specs.RequestRuns.{Took}
-use Rattle.http_wire.proofs.request_feed.take_whole.Given as goal
+use Rattle.http_wire.specs.Streams.{Took}
+use Rattle.http_wire.proofs.streams.take_whole.Given as goal
 
 abbrev pub invariant-loop-request : goal.invariant-loop-request
 invariant-loop-request l = Took l.fn.feed l.feed l.fn.requests.items l.requests.items

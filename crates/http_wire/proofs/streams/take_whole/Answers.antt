@@ -1,5 +1,5 @@
-use Rattle.http_wire.proofs.RequestRunLemmas.{took_message, message_smaller}
-use Rattle.http_wire.proofs.request_feed.take_whole.Goals as goal
+use Rattle.http_wire.proofs.StreamLemmas.{took_message, message_smaller}
+use Rattle.http_wire.proofs.streams.take_whole.Goals as goal
 
 pub loop-request-smaller-in-Continue-1 : goal.loop-request-smaller-in-Continue-1
 loop-request-smaller-in-Continue-1 c = message_smaller c.loop-request.feed c.next.new.self c.in-Message.request c.in-Message.ensures

@@ -1,8 +1,12 @@
--- What a feed gives over a whole stream.
-use Rattle.std.specs.Prelude.{◌≡◌, ℕ, ◌+◌, Bool, true, false, List, ◌++◌, length}
+-- What feeds give over whole streams.
+use Rattle.std.specs.Prelude.{◌≡◌, ⊤, ℕ, ◌+◌, Bool, true, false, List, ◌++◌, length}
 use Rattle.http_wire.specs.declared.request.Request.{Request}
 use Rattle.http_wire.specs.Requests.{Unfinished, Wrong, IsWhole, front, Cuts}
 use Rattle.http_wire.specs.RequestFeed.{Held}
+use Rattle.http_wire.specs.declared.response.NextResponse.{NextResponse}
+use Rattle.http_wire.specs.declared.response.NextResponse.TheVariants.{Message, NeedMore, Bad, OutOfMemory}
+use Rattle.http_wire.specs.Responses.{ResponseFront, Complete, Broken}
+use Rattle.http_wire.specs.ResponseFeed.{at_end}
 
 -- the stream is these messages, and no whole one stands behind them
 pub record IsAllOf (bytes : List ℕ) (requests : List Request) : Type 0 where
@@ -30,3 +34,10 @@ pub record Took (old new : Held) (before after : List Request) : Type 0 where
   pub cuts : Cuts old.rest more new.rest
   pub count : new.at + length new.rest ≡ old.at + length old.rest
   pub goes : new.stopped ≡ false
+
+-- what the end of the stream makes of what stands at its front
+abbrev pub EndsIn : ResponseFront → NextResponse → Type 0
+EndsIn front (Message response) = (rest : List ℕ) × (at_end front ≡ Complete response rest)
+EndsIn front NeedMore = ⊥
+EndsIn front (Bad at) = at_end front ≡ Broken at
+EndsIn front OutOfMemory = ⊤

@@ -9,7 +9,12 @@ use Rattle.http_wire.specs.declared.request.Next.TheVariants.{Message}
 use Rattle.http_wire.specs.RequestFeed.{Held, Gives, pushed}
 use Rattle.http_wire.specs.HeadPlace.{head_place}
 use Rattle.http_wire.specs.Requests.{Front, Unfinished, Wrong, IsWhole, front, Cuts}
-use Rattle.http_wire.specs.RequestRuns.{IsAllOf, Stands, Takes, Took}
+use Rattle.http_wire.specs.declared.response.NextResponse.{NextResponse}
+use Rattle.http_wire.specs.declared.response.NextResponse.TheVariants as next
+use Rattle.http_wire.specs.Responses.{response_front}
+use Rattle.http_wire.specs.ResponseFeed.{HeldResponse, Holds, ahead, Stays, GivesResponse, EndsResponse, at_end}
+use Rattle.http_wire.proofs.ResponseLaws.{complete_more, broken_more}
+use Rattle.http_wire.specs.Streams.{EndsIn, IsAllOf, Stands, Takes, Took}
 use Rattle.http_wire.proofs.RequestLaws.{Cuts_push, Cuts_more, whole_takes, wrong_more}
 
 Cuts_trans : (xs ys : List Request) (a b c : List ℕ) → Cuts a xs b → Cuts b ys c → Cuts a (xs ++ ys) c
@@ -79,6 +84,9 @@ push_at held piece = by held.stopped
     by false = refl
 
 module _ (pieces : List (List ℕ)) (i : ℕ) (piece : List ℕ) (here : i < length pieces) (item : piece ≡ get_or pieces i piece) where
+  pub concat_others : concat (take (i + 1) pieces) ++ concat (drop (i + 1) pieces) ≡ concat pieces
+  concat_others = sym (concat-append (take (i + 1) pieces) (drop (i + 1) pieces)) ∙ ap concat (take-append-drop (i + 1) pieces)
+
   pub concat_more : concat (take (i + 1) pieces) ≡ concat (take i pieces) ++ piece
   concat_more = ap concat (take_more pieces i piece here) ∙ concat-append (take i pieces) (get_or pieces i piece ∷ [])
       ∙ ap (λ (l : List ℕ). concat (take i pieces) ++ l) (append-nil (get_or pieces i piece) ∙ sym item)
@@ -121,3 +129,38 @@ module _ (pieces : List (List ℕ)) (i : ℕ) (piece : List ℕ) (here : i < len
       let sum : length (concat (take (i + 1) pieces)) + length (concat (drop (i + 1) pieces)) ≡ length (concat pieces) = sym (length-append (concat (take (i + 1) pieces)) (concat (drop (i + 1) pieces))) ∙ ap length all in
       let two : length (concat (take (i + 1) pieces)) ≡ length (concat (take i pieces)) + length piece = ap length concat_more ∙ length-append (concat (take i pieces)) piece in
       omega (arith, b.count)
+
+-- ---- one response
+
+-- more bytes came
+pub holds_push : (old new : HeldResponse) (at : ℕ) (bytes piece : List ℕ) → Holds old at bytes → new.to_head ≡ old.to_head → ((more : List ℕ) → ahead new more ≡ ahead old (piece ++ more)) → Holds new at (bytes ++ piece)
+holds_push old new at bytes piece h same pushed = λ more.
+    pushed more ∙ h (piece ++ more) ∙ (λ i. response_front (sym same i) at (sym (append_assoc bytes piece more) i))
+
+-- nothing came
+pub holds_stay : (old new : HeldResponse) (at : ℕ) (bytes : List ℕ) → Holds old at bytes → Stays old new → Holds new at bytes
+holds_stay old new at bytes h stays = λ more. stays.ahead more ∙ h more ∙ ap (λ (t : Bool). response_front t at (bytes ++ more)) (sym stays.to_head)
+
+holds_now : (held : HeldResponse) (to_head : Bool) (at : ℕ) (bytes : List ℕ) → Holds held at bytes → held.to_head ≡ to_head → ahead held [] ≡ response_front to_head at bytes
+holds_now held to_head at bytes h same = h [] ∙ (λ i. response_front (same i) at (append-nil bytes i))
+
+-- what stands at the front stays there when the stream goes on
+pub gives_ends : (old new : HeldResponse) (to_head : Bool) (bytes others : List ℕ) (answer : NextResponse) → Holds old 0 bytes → old.to_head ≡ to_head → GivesResponse old new answer → (answer ≡ next.NeedMore → ⊥) →
+    EndsIn (response_front to_head 0 (bytes ++ others)) answer
+gives_ends old new to_head bytes others (next.Message response) h same g some =
+    let now = sym (holds_now old to_head 0 bytes h same) ∙ g.1 in
+    (g.0 ++ others, ap at_end (complete_more to_head 0 bytes others response g.0 now))
+gives_ends old new to_head bytes others next.NeedMore h same g some = absurd (some refl)
+gives_ends old new to_head bytes others (next.Bad at) h same g some = ap at_end (broken_more to_head 0 bytes others at (sym (holds_now old to_head 0 bytes h same) ∙ g.0))
+gives_ends old new to_head bytes others next.OutOfMemory h same g some = tt
+
+pub finish_ends : (old new : HeldResponse) (to_head : Bool) (bytes : List ℕ) (answer : NextResponse) → Holds old 0 bytes → old.to_head ≡ to_head → EndsResponse old new answer → EndsIn (response_front to_head 0 bytes) answer
+finish_ends old new to_head bytes (next.Message response) h same e = (e.0, ap at_end (sym (holds_now old to_head 0 bytes h same)) ∙ e.1)
+finish_ends old new to_head bytes next.NeedMore h same e = absurd e
+finish_ends old new to_head bytes (next.Bad at) h same e = ap at_end (sym (holds_now old to_head 0 bytes h same)) ∙ e.0
+finish_ends old new to_head bytes next.OutOfMemory h same e = tt
+
+-- the count of bytes that came
+pub count_le : (over : Bool) (count more all new : ℕ) → new ≡ cond over count (count + more) → count ≤ all → new ≤ all + more
+count_le true count more all new is l = omega arith
+count_le false count more all new is l = omega arith
