@@ -1,5 +1,5 @@
 //! Replies, and how they are written (RFC 9112 section 4).
-ghost use Rattle.std.specs.Prelude.{◌≡◌, ◌++◌, ◌≤◌, length, OnOk, IfOk};
+ghost use Rattle.std.specs.Prelude.{◌≡◌, ◌++◌, ◌≤◌, OnOk, IfOk};
 ghost use Rattle.http_wire.specs.Answers.{continue_text, phrase_of, status_body, status_line, date_line, answer_length_line, body_of, answer_text};
 
 use crate::pair::PairList;

@@ -1,5 +1,5 @@
 //! The line before a chunk, read as its bytes come (RFC 9112 section 7.1).
-ghost use Rattle.std.specs.Prelude.{◌≡◌, ◌≤◌, length};
+ghost use Rattle.std.specs.Prelude.{◌≡◌, length};
 ghost use Rattle.http_wire.specs.ChunkLine.{Line, behind_size, line_step, chunk_line, size_of, GoesOnLine, FindsLine};
 
 use httparse::{Status, parse_chunk_size};

@@ -1,7 +1,5 @@
 //! The checks of a request's head, in the order in which they are told.
-ghost use Rattle.std.specs.Prelude.{◌≡◌, not, ◌&&◌, ◌||◌, ◌==◌, nat_lt, nat_le, codes, Some, None, true, if◌then◌else◌};
-ghost use Rattle.std.specs.List.{list_all};
-ghost use Rattle.auth_grammar.specs.Names.{same_name};
+ghost use Rattle.std.specs.Prelude.{◌≡◌, nat_le, codes, Some, None, true, if◌then◌else◌};
 ghost use Rattle.http_wire.specs.Fields.{values_of};
 ghost use Rattle.http_wire.specs.Values.{are_lengths, first_number, is_empty};
 ghost use Rattle.http_wire.specs.RequestChecks.{is_wrong_host, judge_fields};

@@ -1,8 +1,8 @@
 //! A stream of requests, which comes in pieces.
-ghost use Rattle.std.specs.Prelude.{if◌then◌else◌, Bool, IsTrue, ◌↔◌, ◌≡◌, ◌≤◌, ◌<◌, ◌+◌, ◌^◌, ◌++◌, [], ℕ, List, length, take, drop, OnOk, OnErr, IfOk, true, false, not, ◌&&◌, Option, Some, None};
+ghost use Rattle.std.specs.Prelude.{if◌then◌else◌, IsTrue, ◌↔◌, ◌≡◌, ◌<◌, ◌+◌, ◌^◌, [], length, take, OnOk, OnErr, IfOk, true, false, not, ◌&&◌, Some, None};
 ghost use Rattle.http_wire.specs.Search.{Tracks};
 ghost use Rattle.http_wire.specs.RequestPhase.{IsPhase, IsSettled, is_stopped};
-ghost use Rattle.http_wire.specs.RequestFeed.{Gives, pushed, Held};
+ghost use Rattle.http_wire.specs.RequestFeed.{Gives, pushed};
 ghost use Rattle.http_wire.specs.Requests.{with_body, begun_at};
 
 use crate::front::{HEAD_LIMIT, behind, front_of, window};

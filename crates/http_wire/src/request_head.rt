@@ -1,5 +1,5 @@
 //! The head of a request, checked.
-ghost use Rattle.std.specs.Prelude.{◌≡◌, ◌≤◌, ℕ, length, IfOk, true};
+ghost use Rattle.std.specs.Prelude.{◌≡◌, ◌≤◌, length, IfOk};
 ghost use Rattle.http_wire.specs.Lines.{line_feeds};
 ghost use Rattle.http_wire.specs.RequestChecks.{judge};
 ghost use Rattle.http_wire.specs.ParsedRequest.{FindsHead};

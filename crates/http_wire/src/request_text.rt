@@ -1,5 +1,5 @@
 //! Requests, and how they are written (RFC 9112 section 3).
-ghost use Rattle.std.specs.Prelude.{◌≡◌, ◌++◌, length, OnOk, IfOk};
+ghost use Rattle.std.specs.Prelude.{◌≡◌, ◌++◌, OnOk, IfOk};
 ghost use Rattle.http_wire.specs.RequestTexts.{request_line, host_line, request_length_line, request_text};
 
 use crate::pair::PairList;

@@ -1,5 +1,5 @@
 //! The checks of a response's head, and where its body ends (RFC 9112 section 6.3).
-ghost use Rattle.std.specs.Prelude.{◌≡◌, ◌||◌, ◌==◌, nat_le, codes, Some, None, if◌then◌else◌, true};
+ghost use Rattle.std.specs.Prelude.{◌≡◌, codes, true};
 ghost use Rattle.http_wire.specs.Fields.{values_of};
 ghost use Rattle.http_wire.specs.Values.{are_lengths, first_number};
 ghost use Rattle.http_wire.specs.ResponseChecks.{is_other_coding, sized, framing_of, judge_response_fields};

@@ -1,11 +1,11 @@
 //! Responses that come in pieces.
-ghost use Rattle.std.specs.Prelude.{Bool, nat_lt, ◌≡◌, ◌≤◌, ◌<◌, ◌+◌, ◌-◌, ◌^◌, ◌++◌, ◌↔◌, ℕ, List, [], length, take, drop, min, OnOk, OnErr, IfOk, IsTrue, Some, true, false, if◌then◌else◌};
+ghost use Rattle.std.specs.Prelude.{Bool, nat_lt, ◌≡◌, ◌≤◌, ◌<◌, ◌+◌, ◌^◌, ◌++◌, ◌↔◌, ℕ, List, [], length, take, drop, min, OnOk, OnErr, IfOk, IsTrue, Some, false, if◌then◌else◌};
 ghost use Rattle.http_wire.specs.HeadPlace.{head_len};
 ghost use Rattle.http_wire.specs.ChunkLine.{GoesOnLine};
 ghost use Rattle.http_wire.specs.Search.{GoesOn};
 ghost use Rattle.http_wire.specs.ResponseChecks.{judge_response};
-ghost use Rattle.http_wire.specs.Responses.{response_front, behind_head, body_front, sized_body, open_body, chunks, behind_line, chunk_data, chunk_end, trailers};
-ghost use Rattle.http_wire.specs.ResponseFeed.{HeldResponse, part_front, stage_front, place_of, ahead, Holds, is_over, Follows, GivesResponse, EndsResponse};
+ghost use Rattle.http_wire.specs.Responses.{response_front, body_front, sized_body, open_body, chunks, behind_line, chunk_data, chunk_end, trailers};
+ghost use Rattle.http_wire.specs.ResponseFeed.{part_front, stage_front, place_of, ahead, Holds, is_over, GivesResponse, EndsResponse};
 ghost use Rattle.http_wire.specs.ResponseSteps.{IsPart, IsStage, Waits, WaitsOrStops, FindsTrailers, has_crlf, Steps, Runs};
 
 use crate::chunk_line::{LinePart, LineSearch, chunk_size, find_line};
