@@ -1,2 +1,4 @@
 pub mod Asking
-pub mod Responding
+pub mod Answered
+pub mod Decisions
+pub mod Plans

@@ -1,5 +1,5 @@
 -- The reply to a request, by its verdict and what its file gave (RFC 9110 sections 9.3, 11.6 and 15).
-use Rattle.std.specs.Prelude.{◌≡◌, ℕ, Bool, true, false, ◌==◌, bytes_eq, if◌then◌else◌, List, [], ◌∷◌, ◌++◌, Option, Some, None, map, codes}
+use Rattle.std.specs.Prelude.{ℕ, Bool, true, false, ◌==◌, bytes_eq, if◌then◌else◌, List, [], ◌∷◌, ◌++◌, Option, Some, None, map, codes}
 use Rattle.auth_grammar.specs.Writing.{items_text, params_text}
 use Rattle.auth_grammar.specs.declared.items.Item.{Item}
 use Rattle.auth_grammar.specs.declared.items.Quoting.TheVariants as quoting
@@ -12,6 +12,7 @@ use Rattle.auth_io.specs.declared.files.FileAnswer.{FileAnswer}
 use Rattle.auth_io.specs.declared.files.FileAnswer.TheVariants.{Found, Absent, TooLarge, Failed, OutOfMemory}
 use Rattle.auth_io.specs.declared.files.Replaced.{Replaced}
 use Rattle.auth_io.specs.declared.files.Replaced.TheVariants.{Done, Failed as NotReplaced, OutOfMemory as NoMemory}
+use Rattle.connection_loop.specs.Machine.{Incoming}
 use Rattle.connection_loop.specs.declared.responder.Response.{Response}
 use Rattle.http_wire.specs.Answers.{answer_text, status_body}
 use Rattle.http_wire.specs.declared.pair.Pair.{Pair}
@@ -24,10 +25,9 @@ use Rattle.origin_core.specs.declared.plan.Plan.TheVariants.{Refuse, Read, Repla
 use Rattle.origin_core.specs.declared.plan.Refusal.{Refusal}
 use Rattle.origin_core.specs.declared.plan.Refusal.TheVariants.{Bad as BadForm, Challenged, Forbidden, NotFound, NotAllowed}
 use Rattle.origin_core.specs.declared.received.Received.{Received}
-use Rattle.origin_core.specs.declared.received.Task.{Task}
 
-abbrev pub task : Received → Task
-task r = record { request = r.request.now; last = r.last; moment = r.moment }
+abbrev pub incoming_of : Received → Incoming
+incoming_of r = record { request = r.request.now; last = r.last; moment = r.moment }
 
 -- the method of a request, whose case matters
 abbrev pub method_of : List ℕ → Method
@@ -79,7 +79,7 @@ is_admitted (Bad why) = false
 -- ---- replies
 
 -- a reply with a body
-abbrev pub reply_with : Task → Verdict → ℕ → List ℕ → Response
+abbrev pub reply_with : Incoming → Verdict → ℕ → List ℕ → Response
 reply_with t verdict status body =
     let to_head = is_head (method_of t.request.method) in
     record {
@@ -95,11 +95,11 @@ reply_with t verdict status body =
     }
 
 -- a reply that tells its status
-abbrev pub status_reply : Task → Verdict → ℕ → Response
+abbrev pub status_reply : Incoming → Verdict → ℕ → Response
 status_reply t verdict status = reply_with t verdict status (status_body status)
 
 -- the reply by what a file gave
-abbrev pub found_reply : Task → Verdict → FileAnswer → Response
+abbrev pub found_reply : Incoming → Verdict → FileAnswer → Response
 found_reply t verdict (Found bytes) = reply_with t verdict 200 bytes
 found_reply t verdict Absent = status_reply t verdict 404
 found_reply t verdict TooLarge = status_reply t verdict 404
@@ -107,7 +107,7 @@ found_reply t verdict Failed = status_reply t verdict 500
 found_reply t verdict OutOfMemory = status_reply t verdict 500
 
 -- the reply by how a file was replaced
-abbrev pub replaced_reply : Task → Verdict → Replaced → Response
+abbrev pub replaced_reply : Incoming → Verdict → Replaced → Response
 replaced_reply t verdict Done = reply_with t verdict 204 []
 replaced_reply t verdict NotReplaced = status_reply t verdict 500
 replaced_reply t verdict NoMemory = status_reply t verdict 500
@@ -152,9 +152,3 @@ plan_of root request (Bad why) = Refuse BadForm
 plan_of root request (Challenge items) = Refuse Challenged
 plan_of root request (Open items) = open_plan root request (method_of request.method)
 plan_of root request (Admit user proof) = file_plan root request (method_of request.method)
-
--- the replies that a plan may lead to
-abbrev pub Leads : Task → Verdict → Plan → Response → Type 0
-Leads t verdict (Refuse refusal) response = response ≡ status_reply t verdict (status_of refusal)
-Leads t verdict (Read name) response = (answer : FileAnswer) × (response ≡ found_reply t verdict answer)
-Leads t verdict (Replace name) response = (answer : Replaced) × (response ≡ replaced_reply t verdict answer)

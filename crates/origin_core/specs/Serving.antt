@@ -1,57 +1,90 @@
--- What is written for a request.
-use Rattle.std.specs.Prelude.{◌≡◌, ℕ, ◌<◌, ⊤, List, [], ◌∷◌}
-use Rattle.auth_decide.specs.Asks.{asked}
-use Rattle.auth_decide.specs.Readings.{Reads, credentials_lines}
+-- The server of a site as a machine: what a request wants of the outside, by what was done so far, and the response.
+use Rattle.std.specs.Prelude.{ℕ, false, List, [], ◌∷◌, Option, Some, None}
+use Rattle.auth_decide.specs.Asks.{Question, asked}
+use Rattle.auth_decide.specs.Readings.{credentials_lines}
 use Rattle.auth_decide.specs.declared.site.Site.{Site}
-use Rattle.auth_decide.specs.declared.verdict.Answer.{Answer}
+use Rattle.auth_decide.specs.declared.verdict.Ask.{Ask}
 use Rattle.auth_decide.specs.declared.verdict.Ask.TheVariants as ask
 use Rattle.auth_decide.specs.declared.verdict.Reading.{Reading}
 use Rattle.auth_decide.specs.declared.verdict.Verdict.{Verdict}
 use Rattle.auth_grammar.specs.declared.items.Role.TheVariants.{Origin}
-use Rattle.auth_io.specs.Causes.{Rose}
 use Rattle.connection_loop.specs.Machine.{Machine, Move, Asks, Says, Incoming}
-use Rattle.connection_loop.specs.declared.responder.Lack.{Lack}
-use Rattle.connection_loop.specs.declared.responder.Lack.TheVariants.{Random, Worn}
-use Rattle.connection_loop.specs.declared.responder.RespondError.{RespondError}
-use Rattle.connection_loop.specs.declared.responder.RespondError.TheVariants.{Lacking, OutOfMemory}
-use Rattle.http_wire.specs.declared.request.Request.{Request}
-use Rattle.nonce_shard.specs.Seat.{Seat}
-use Rattle.origin_core.specs.Replies.{plan_of, Leads}
-use Rattle.origin_core.specs.declared.received.Task.{Task}
-use Rattle.origin_core.specs.declared.serving.Replied.{Replied}
+use Rattle.connection_loop.specs.declared.responder.Response.{Response}
+use Rattle.origin_core.specs.Events.{operation_of, replaced_by, answers_in, after_answers}
+use Rattle.origin_core.specs.Replies.{plan_of, status_of, status_reply, found_reply, replaced_reply}
+use Rattle.origin_core.specs.declared.events.Event.{Event}
+use Rattle.origin_core.specs.declared.events.Event.TheVariants.{CredentialsRead, Drew, Called, FileRead, FileReplaced}
+use Rattle.origin_core.specs.declared.events.Operation.{Operation}
+use Rattle.origin_core.specs.declared.events.Operation.TheVariants.{ReadCredentials, Draw, CallTable, ReadFile, ReplaceFile}
+use Rattle.origin_core.specs.declared.plan.Plan.{Plan}
+use Rattle.origin_core.specs.declared.plan.Plan.TheVariants.{Refuse, Read, Replace}
+use Rattle.origin_core.specs.declared.setting.Setting.{Setting}
 
--- the verdict is that of the decision, with some answers to what it asks
-pub record IsDecided (site : Site) (request : Request) (moment : ℕ) (verdict : Verdict) : Type 0 where
-  pub reading : Reading
-  pub reads : Reads (credentials_lines Origin request) reading
-  pub shards : ℕ
-  pub answers : List Answer
-  pub ends : asked (record { role = Origin; request = request; moment = moment; site = site; shards = shards; reading = reading }) answers ≡ ask.Verdict verdict
+abbrev pub setting : Site → ℕ → Setting
+setting site shards = record { site = site; shards = shards }
 
--- The response is what the verdict of the decision calls for, with some answer of the files.
-pub record IsReply (site : Site) (replied : Replied) : Type 0 where
-  pub verdict : Verdict
-  pub decided : IsDecided site replied.task.request replied.task.moment verdict
-  pub leads : Leads replied.task verdict (plan_of site.root replied.task.request verdict) replied.response
+-- ---- behind the verdict
 
--- A lack of random words has raised their count of faults. A lack of calls comes of a shard that notes the limit.
-abbrev pub LackCause : ℕ → ℕ → Seat → Lack → Type 0
-LackCause before now seat Random = Rose before now
-LackCause before now seat (Worn calls) = (shard : ℕ) × (shard < seat.shards) × (seat.noted shard ≡ calls) × (calls ≡ seat.limit)
+-- what a plan wants of the files
+abbrev pub operation_for : Incoming → Plan → Option Operation
+operation_for t (Refuse refusal) = None
+operation_for t (Read name) = Some (ReadFile name)
+operation_for t (Replace name) = Some (ReplaceFile name t.request.body)
 
-abbrev pub HasCause : ℕ → ℕ → Seat → RespondError → Type 0
-HasCause before now seat (Lacking lack) = LackCause before now seat lack
-HasCause before now seat OutOfMemory = ⊤
+-- the reply by what was done with a file, once something was
+abbrev pub file_reply : Incoming → Verdict → List Event → Option Response
+file_reply t verdict [] = None
+file_reply t verdict (FileRead name answer ∷ events) = Some (found_reply t verdict answer)
+file_reply t verdict (FileReplaced name bytes ending ∷ events) = Some (replaced_reply t verdict (replaced_by ending))
+file_reply t verdict (CredentialsRead lines reading ∷ events) = None
+file_reply t verdict (Drew words ∷ events) = None
+file_reply t verdict (Called shard call reply ∷ events) = None
 
--- ---- the server as a machine
+-- the reply to a request by its plan, once it is there
+abbrev pub plan_reply : Incoming → Verdict → Plan → List Event → Option Response
+plan_reply t verdict (Refuse refusal) events = Some (status_reply t verdict (status_of refusal))
+plan_reply t verdict (Read name) events = file_reply t verdict events
+plan_reply t verdict (Replace name) events = file_reply t verdict events
 
-abbrev pub task_of : Incoming → Task
-task_of incoming = record { request = incoming.request; last = incoming.last; moment = incoming.moment }
+-- ---- the machine
 
--- first the reply to the request is asked for, then it is given
-abbrev pub next_move : Unit {0} → Incoming → List Replied → Move Task (Unit {0})
-next_move s incoming [] = Asks (task_of incoming) s
-next_move s incoming (replied ∷ more) = Says replied.response s
+-- no response: what follows events that answer nothing that was asked, which never come
+abbrev pub astray : Setting → Move Operation Setting
+astray s = Says (record { text = []; admitted = false }) s
 
-abbrev pub origin : Machine (Unit {0}) Task Replied
-origin = record { asked = next_move; ask_of = λ replied. replied.task }
+abbrev pub wants : Setting → Option Operation → Move Operation Setting
+wants s None = astray s
+wants s (Some operation) = Asks operation s
+
+abbrev pub says_or : Setting → Option Operation → Option Response → Move Operation Setting
+says_or s operation (Some response) = Says response s
+says_or s operation None = wants s operation
+
+abbrev pub carry_out : Setting → Incoming → Verdict → Plan → List Event → Move Operation Setting
+carry_out s t verdict plan events = says_or s (operation_for t plan) (plan_reply t verdict plan events)
+
+-- what is asked for a decision, where nothing was done after its last answer
+abbrev pub asks_next : Setting → Operation → List Event → Move Operation Setting
+asks_next s operation [] = Asks operation s
+asks_next s operation (event ∷ events) = astray s
+
+-- what the decision asks, or what its verdict calls for
+abbrev pub by_decision : Setting → Incoming → Ask → List Event → Move Operation Setting
+by_decision s t ask.Draw events = asks_next s Draw events
+by_decision s t (ask.Table shard call) events = asks_next s (CallTable shard call) events
+by_decision s t (ask.Verdict verdict) events = carry_out s t verdict (plan_of s.site.root t.request verdict) events
+
+abbrev pub question_of : Setting → Incoming → Reading → Question
+question_of s incoming reading = record { role = Origin; request = incoming.request; moment = incoming.moment; site = s.site; shards = s.shards; reading = reading }
+
+-- First the credentials are read, then the request is decided, and then its verdict is carried out.
+abbrev pub next_move : Setting → Incoming → List Event → Move Operation Setting
+next_move s incoming [] = Asks (ReadCredentials (credentials_lines Origin incoming.request)) s
+next_move s incoming (CredentialsRead lines reading ∷ events) = by_decision s incoming (asked (question_of s incoming reading) (answers_in events)) (after_answers events)
+next_move s incoming (Drew words ∷ events) = astray s
+next_move s incoming (Called shard call reply ∷ events) = astray s
+next_move s incoming (FileRead name answer ∷ events) = astray s
+next_move s incoming (FileReplaced name bytes ending ∷ events) = astray s
+
+abbrev pub origin : Machine Setting Operation Event
+origin = record { asked = next_move; ask_of = operation_of }

@@ -1,6 +1,8 @@
 //! The reply that a verdict calls for, with the file that it reads or replaces.
-ghost use Rattle.std.specs.Prelude.{◌≡◌, IfOk};
-ghost use Rattle.origin_core.specs.Replies.{task, found_reply, replaced_reply, plan_of, Leads};
+ghost use Rattle.std.specs.Prelude.{◌≡◌, ◌≢◌, IfOk};
+ghost use Rattle.origin_core.specs.Deciding.{Carries};
+ghost use Rattle.origin_core.specs.Outside.{files_state};
+ghost use Rattle.origin_core.specs.Replies.{incoming_of, found_reply, replaced_reply, plan_of};
 
 use crate::plan::{Plan, plan_of};
 use crate::received::Received;
@@ -21,7 +23,8 @@ fn found_reply(
     verdict: Verdict,
     answer: FileAnswer,
 ) -> Result<Response, OutOfMemory>
-    ensures { IfOk result (λ response. response ≡ found_reply (task received.now) verdict answer) }
+    ensures reply { IfOk result (λ response. response ≡ found_reply (incoming_of received.now) verdict answer) }
+    ensures memory { IfOk result (λ response. answer ≢ FileAnswer.OutOfMemory) }
 {
     match answer {
         FileAnswer::Found(bytes) => reply_with(alloc, received, verdict, 200, bytes),
@@ -38,13 +41,42 @@ fn replaced_reply(
     verdict: Verdict,
     answer: Replaced,
 ) -> Result<Response, OutOfMemory>
-    ensures { IfOk result (λ response. response ≡ replaced_reply (task received.now) verdict answer) }
+    ensures reply { IfOk result (λ response. response ≡ replaced_reply (incoming_of received.now) verdict answer) }
+    ensures memory { IfOk result (λ response. answer ≢ Replaced.OutOfMemory) }
 {
     match answer {
         Replaced::Done => reply_with(alloc, received, verdict, 204, Octets::new(alloc)),
         Replaced::Failed => status_reply(alloc, received, verdict, 500),
         Replaced::OutOfMemory => Err(OutOfMemory),
     }
+}
+
+/// Reads the file that is to be sent, and gives the reply.
+fn send_file<F: Files>(
+    alloc: Global,
+    received: &Received<'_>,
+    verdict: Verdict,
+    name: &[u8],
+    files: &mut F,
+) -> Result<Response, OutOfMemory>
+    ensures { let at = files_state F.contents F.asked F.faults in Carries (at files.old) (at files.new) (incoming_of received.now) verdict (Plan.Read name.now) result }
+{
+    let answer = files.read(name, FILE_LIMIT);
+    found_reply(alloc, received, verdict, answer)
+}
+
+/// Replaces a file by the request's body, and gives the reply.
+fn store_file<F: Files>(
+    alloc: Global,
+    received: &Received<'_>,
+    verdict: Verdict,
+    name: &[u8],
+    files: &mut F,
+) -> Result<Response, OutOfMemory>
+    ensures { let at = files_state F.contents F.asked F.faults in Carries (at files.old) (at files.new) (incoming_of received.now) verdict (Plan.Replace name.now) result }
+{
+    let answer = files.replace(name, received.request.body.bytes());
+    replaced_reply(alloc, received, verdict, answer)
 }
 
 /// Carries a plan out, and gives the reply.
@@ -55,18 +87,12 @@ fn carry_out<F: Files>(
     plan: Plan,
     files: &mut F,
 ) -> Result<Response, OutOfMemory>
-    ensures { IfOk result (λ response. Leads (task received.now) verdict plan response) }
+    ensures { let at = files_state F.contents F.asked F.faults in Carries (at files.old) (at files.new) (incoming_of received.now) verdict plan result }
 {
     match plan {
         Plan::Refuse(refusal) => status_reply(alloc, received, verdict, refusal.status()),
-        Plan::Read { name } => {
-            let answer = files.read(name.bytes(), FILE_LIMIT);
-            found_reply(alloc, received, verdict, answer)
-        }
-        Plan::Replace { name } => {
-            let answer = files.replace(name.bytes(), received.request.body.bytes());
-            replaced_reply(alloc, received, verdict, answer)
-        }
+        Plan::Read { name } => send_file(alloc, received, verdict, name.bytes(), files),
+        Plan::Replace { name } => store_file(alloc, received, verdict, name.bytes(), files),
     }
 }
 
@@ -79,7 +105,7 @@ pub fn reply_for<F: Files>(
     verdict: Verdict,
     files: &mut F,
 ) -> Result<Response, OutOfMemory>
-    ensures { IfOk result (λ response. Leads (task received.now) verdict (plan_of root.now received.now.request.now verdict) response) }
+    ensures { let at = files_state F.contents F.asked F.faults in Carries (at files.old) (at files.new) (incoming_of received.now) verdict (plan_of root.now received.now.request.now verdict) result }
 {
     let plan = plan_of(alloc, root, received.request, &verdict)?;
     carry_out(alloc, received, verdict, plan, files)

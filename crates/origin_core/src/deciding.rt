@@ -1,7 +1,8 @@
 //! The decision for a request, with the calls that it asks for.
-ghost use Rattle.std.specs.Prelude.{◌≤◌, IfOk, IfErr};
-ghost use Rattle.origin_core.specs.Serving.{IsDecided, HasCause};
-ghost use Rattle.origin_core.specs.Replies.{task};
+ghost use Rattle.origin_core.specs.Deciding.{Decides};
+ghost use Rattle.origin_core.specs.Outside.{table_state};
+ghost use Rattle.origin_core.specs.Replies.{incoming_of};
+ghost use Rattle.origin_core.specs.Serving.{setting};
 
 use crate::received::Received;
 use auth_decide::{Ask, Decision, Site, Verdict};
@@ -19,9 +20,7 @@ pub(crate) fn decide<W: Words, T: TableSeat>(
     random: &mut W,
     seat: &mut T,
 ) -> Result<Verdict, RespondError>
-    ensures decided { IfOk result (λ verdict. IsDecided site.now (task received.now).request received.now.moment verdict) }
-    ensures later { W.faults random.old ≤ W.faults random.new }
-    ensures cause { IfErr result (HasCause (W.faults random.old) (W.faults random.new) (T.seat seat.new)) }
+    ensures decided { let at = table_state W.drawn W.faults T.seat in Decides (at random.old seat.old) (at random.new seat.new) (setting site.now (T.seat seat.old).shards) (incoming_of received.now) result }
 {
     let shards = seat.shards();
     let Ok(mut decision) = Decision::start(

@@ -3,17 +3,21 @@
 
 mod carrying;
 mod deciding;
+mod events;
 mod method;
 mod names;
 mod plan;
 mod received;
 mod replies;
 mod serving;
+mod setting;
 
 pub use carrying::reply_for;
+pub use events::{Event, Operation};
 pub use names::file_name;
-pub use received::{Received, Task};
-pub use serving::{Replied, serve_connection};
+pub use received::Received;
+pub use serving::serve_connection;
+pub use setting::Setting;
 
 #[cfg(test)]
 mod tests;

@@ -9,11 +9,3 @@ pub struct Received<'q> {
     pub last: bool,
     pub moment: u64,
 }
-
-/// The same as a value. Contracts alone have it.
-#[derive(Drop)]
-pub struct Task {
-    pub request: Request,
-    pub last: bool,
-    pub moment: u64,
-}

@@ -1,6 +1,6 @@
 //! The reply to a request, by its verdict and what its file gave.
 ghost use Rattle.std.specs.Prelude.{◌≡◌, ◌++◌, ◌∷◌, [], ◌≤◌, IfOk, OnOk, map};
-ghost use Rattle.origin_core.specs.Replies.{pair, item_line, info_line, allow_line, verdict_lines, allow_lines, is_admitted, sent_body, reply_with, status_reply, task};
+ghost use Rattle.origin_core.specs.Replies.{pair, item_line, info_line, allow_line, verdict_lines, allow_lines, is_admitted, sent_body, reply_with, status_reply, incoming_of};
 
 use crate::method::Method;
 use crate::received::Received;
@@ -119,7 +119,7 @@ pub(crate) fn reply_with(
 ) -> Result<Response, OutOfMemory>
     requires low { 200 ≤ status }
     requires high { status ≤ 599 }
-    ensures { IfOk result (λ response. response ≡ reply_with (task received.now) verdict status body) }
+    ensures { IfOk result (λ response. response ≡ reply_with (incoming_of received.now) verdict status body) }
 {
     let to_head = Method::of(received.request.method.bytes()).is_head();
     let admitted = is_admitted(&verdict);
@@ -147,7 +147,7 @@ pub(crate) fn status_reply(
 ) -> Result<Response, OutOfMemory>
     requires low { 200 ≤ status }
     requires high { status ≤ 599 }
-    ensures { IfOk result (λ response. response ≡ status_reply (task received.now) verdict status) }
+    ensures { IfOk result (λ response. response ≡ status_reply (incoming_of received.now) verdict status) }
 {
     let body = status_body(alloc, status)?;
     reply_with(alloc, received, verdict, status, body)
