@@ -1,2 +1,3 @@
 pub mod Realms
 pub mod Few
+pub mod Calls
