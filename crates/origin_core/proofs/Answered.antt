@@ -1,5 +1,5 @@
 -- The answers that a decision had, and what comes after them.
-use Rattle.std.proofs.Common.{◌≡◌, ◌∷◌, [], ◌++◌, ℕ, List, Option, Some, None, sym, refl, ap, ◌∙◌}
+use Rattle.std.proofs.Common.{◌≡◌, ◌∷◌, [], ◌++◌, ℕ, List, Option, refl, ap}
 use Rattle.auth_decide.specs.declared.verdict.Answer.{Answer}
 use Rattle.auth_decide.specs.declared.verdict.Answer.TheVariants.{Words, Replied}
 use Rattle.auth_io.proofs.Later.{later_none}

@@ -1,5 +1,5 @@
 -- How the calls of one decision go on.
-use Rattle.std.proofs.Common.{◌≡◌, ◌∷◌, [], ◌++◌, ◌≤◌, ◌<◌, ℕ, List, map, Option, Some, None, Result, Ok, Err, sym, refl, ap, ◌∙◌, subst}
+use Rattle.std.proofs.Common.{◌≡◌, ◌∷◌, [], ◌++◌, ◌≤◌, ◌<◌, ℕ, List, Option, Some, None, Ok, Err, sym, refl, ap, ◌∙◌, subst}
 use Rattle.std.specs.List.{All}
 use Rattle.std.proofs.lemmas.List.{append-nil}
 use Rattle.std.proofs.lemmas.List.Elements.{All-nil, All-cons, All-append}
@@ -20,7 +20,7 @@ use Rattle.auth_io.proofs.Passing.{Adds_none}
 use Rattle.auth_io.specs.Causes.{Rose}
 use Rattle.auth_io.specs.Told.{Adds, Stays}
 use Rattle.connection_loop.proofs.Turns.{Stands, at_start, at_event, at_lack, at_no_memory}
-use Rattle.connection_loop.specs.Machine.{Incoming, Move, Asks, turn, turn_asks}
+use Rattle.connection_loop.specs.Machine.{Incoming, Asks}
 use Rattle.connection_loop.specs.declared.responder.Lack.TheVariants.{Random, Worn}
 use Rattle.connection_loop.specs.declared.responder.RespondError.TheVariants.{Lacking, OutOfMemory}
 use Rattle.http_wire.specs.declared.request.Request.{Request}
@@ -30,14 +30,13 @@ use Rattle.nonce_shard.specs.declared.calls.Call.{Call}
 use Rattle.nonce_shard.specs.declared.calls.Reply.{Reply}
 use Rattle.origin_core.proofs.Answered.{after_more, answers_more, files_stay}
 use Rattle.origin_core.proofs.Asking.{made}
-use Rattle.origin_core.specs.Deciding.{HasAnswers, IsDecided, Decides}
+use Rattle.origin_core.specs.Deciding.{HasAnswers, Decides}
 use Rattle.origin_core.specs.Events.{IsSound, answers_in, after_answers, operation_of}
 use Rattle.origin_core.specs.Laws.{table_none, table_then}
 use Rattle.origin_core.specs.Outside.{FilesState, TableState, FilesPassed, TablePassed}
 use Rattle.origin_core.specs.Serving.{by_decision, next_move, origin, question_of}
 use Rattle.origin_core.specs.declared.events.Event.{Event}
 use Rattle.origin_core.specs.declared.events.Event.TheVariants.{CredentialsRead, Drew, Called}
-use Rattle.origin_core.specs.declared.events.Operation.{Operation}
 use Rattle.origin_core.specs.declared.events.Operation.TheVariants.{Draw, CallTable}
 use Rattle.origin_core.specs.declared.setting.Setting.{Setting}
 

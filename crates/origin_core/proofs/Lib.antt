@@ -2,3 +2,4 @@ pub mod Asking
 pub mod Answered
 pub mod Decisions
 pub mod Plans
+pub mod Never

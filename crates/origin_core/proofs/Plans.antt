@@ -1,17 +1,15 @@
 -- What is done behind the verdict.
-use Rattle.std.proofs.Common.{◌≡◌, ◌≢◌, ◌∷◌, [], ◌++◌, ◌≤◌, ℕ, List, map, Bool, false, true, Option, Some, None, Result, Ok, Err, IfOk, sym, refl, ap, ◌∙◌, subst}
-use Rattle.std.specs.List.{All}
+use Rattle.std.proofs.Common.{◌≡◌, ◌≢◌, ◌∷◌, [], ◌++◌, ◌≤◌, ℕ, List, false, true, Option, Some, Result, Ok, Err, IfOk, sym, refl, ap, ◌∙◌, subst}
 use Rattle.std.specs.Result.{IsErr, IsErrAnd}
 use Rattle.std.proofs.lemmas.Result.{err_from_is_err_and}
 use Rattle.std.proofs.lemmas.List.{append-nil}
 use Rattle.std.proofs.lemmas.List.Elements.{All-nil, All-cons, All-append}
 use Rattle.auth_decide.specs.Asks.{asked}
 use Rattle.auth_decide.specs.declared.verdict.Answer.{Answer}
-use Rattle.auth_decide.specs.declared.verdict.Ask.{Ask}
 use Rattle.auth_decide.specs.declared.verdict.Ask.TheVariants as ask
 use Rattle.auth_decide.specs.declared.verdict.Verdict.{Verdict}
 use Rattle.auth_grammar.specs.declared.octets.OutOfMemory.{OutOfMemory as NoMemory}
-use Rattle.auth_io.specs.Files.{Contents, ReadAnswers, AddsAsked, ReadRose, ReplaceRose, ReplaceSays, IsFailure, contents_after, read_entry}
+use Rattle.auth_io.specs.Files.{ReadAnswers, AddsAsked, ReadRose, ReplaceRose, ReplaceSays, IsFailure, contents_after, read_entry}
 use Rattle.auth_io.specs.declared.files.Ending.{Ending}
 use Rattle.auth_io.specs.declared.files.Ending.TheVariants.{Well, FailedBefore, FailedDone}
 use Rattle.auth_io.specs.declared.files.FileAnswer.{FileAnswer}
@@ -20,7 +18,7 @@ use Rattle.auth_io.specs.declared.files.Replaced.{Replaced}
 use Rattle.auth_io.specs.declared.files.Replaced.TheVariants.{Done, Failed as NotReplaced, OutOfMemory as NoRoom}
 use Rattle.auth_io.proofs.Passing.{AddsAsked_none}
 use Rattle.connection_loop.proofs.Turns.{Stands, at_event, at_response, at_no_memory}
-use Rattle.connection_loop.specs.Machine.{Incoming, Asks, Says, Responds}
+use Rattle.connection_loop.specs.Machine.{Incoming, Asks, Responds}
 use Rattle.connection_loop.specs.declared.responder.RespondError.{RespondError}
 use Rattle.connection_loop.specs.declared.responder.RespondError.TheVariants.{OutOfMemory}
 use Rattle.connection_loop.specs.declared.responder.Response.{Response}
@@ -28,7 +26,7 @@ use Rattle.origin_core.proofs.Decisions.{moves, stands}
 use Rattle.origin_core.specs.Deciding.{Carries, Decides, IsCarried, IsDecided}
 use Rattle.origin_core.specs.Events.{IsSound, answers_in, after_answers, operation_of, replaced_by, file_limit}
 use Rattle.origin_core.specs.Laws.{files_none, files_then, table_none, table_then}
-use Rattle.origin_core.specs.Outside.{FilesState, TableState, FilesPassed, TablePassed, Passed, LackedBy, outside_of}
+use Rattle.origin_core.specs.Outside.{FilesState, TableState, TablePassed, Passed, LackedBy, outside_of}
 use Rattle.origin_core.specs.Replies.{found_reply, plan_of, replaced_reply, status_of, status_reply}
 use Rattle.origin_core.specs.Serving.{carry_out, next_move, operation_for, origin, plan_reply, says_or, wants}
 use Rattle.origin_core.specs.declared.events.Event.{Event}

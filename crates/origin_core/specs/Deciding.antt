@@ -1,5 +1,5 @@
 -- What one request's decision and its plan do.
-use Rattle.std.specs.Prelude.{◌≡◌, ℕ, List, [], ◌∷◌, ◌++◌, Option, Some, map, Result, Ok, Err, IfOk, ⊤}
+use Rattle.std.specs.Prelude.{◌≡◌, ℕ, List, [], ◌∷◌, ◌++◌, Some, map, Result, Ok, Err, IfOk, ⊤}
 use Rattle.std.specs.List.{All}
 use Rattle.auth_decide.specs.Asks.{asked}
 use Rattle.auth_decide.specs.declared.verdict.Ask.TheVariants as ask

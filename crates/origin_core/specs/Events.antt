@@ -3,17 +3,13 @@ use Rattle.std.specs.Prelude.{◌≡◌, ◌≢◌, ℕ, List, [], ◌∷◌, �
 use Rattle.auth_decide.specs.Readings.{Reads}
 use Rattle.auth_decide.specs.declared.verdict.Answer.{Answer}
 use Rattle.auth_decide.specs.declared.verdict.Answer.TheVariants.{Words, Replied}
-use Rattle.auth_io.specs.Causes.{Rose}
 use Rattle.auth_io.specs.Files.{Contents, ReadAnswers, ReadRose, ReplaceRose, read_entry, contents_after}
 use Rattle.auth_io.specs.declared.files.Ending.{Ending}
 use Rattle.auth_io.specs.declared.files.Ending.TheVariants.{Well, FailedBefore, FailedDone}
-use Rattle.auth_io.specs.declared.files.FileAnswer.{FileAnswer}
 use Rattle.auth_io.specs.declared.files.FileAnswer.TheVariants.{OutOfMemory}
 use Rattle.auth_io.specs.declared.files.Replaced.{Replaced}
 use Rattle.auth_io.specs.declared.files.Replaced.TheVariants.{Done, Failed}
 use Rattle.nonce_shard.specs.Seat.{Made}
-use Rattle.nonce_shard.specs.declared.calls.Call.{Call}
-use Rattle.nonce_shard.specs.declared.calls.Reply.{Reply}
 use Rattle.origin_core.specs.declared.events.Event.{Event}
 use Rattle.origin_core.specs.declared.events.Event.TheVariants.{CredentialsRead, Drew, Called, FileRead, FileReplaced}
 use Rattle.origin_core.specs.declared.events.Operation.{Operation}

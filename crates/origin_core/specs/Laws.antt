@@ -1,20 +1,17 @@
 -- What passed in two parts passed in one.
-use Rattle.std.proofs.Common.{◌≡◌, ◌∷◌, [], ◌++◌, ◌≤◌, ◌<◌, ℕ, List, Option, Some, None, sym, refl, ap, ◌∙◌, subst, append_assoc}
-use Rattle.std.specs.List.{All}
+use Rattle.std.proofs.Common.{◌≡◌, ◌∷◌, [], ◌++◌, ◌<◌, ℕ, List, Option, sym, refl, ap, ◌∙◌, subst, append_assoc}
 use Rattle.std.proofs.lemmas.List.Elements.{All-nil, All-append}
-use Rattle.auth_decide.specs.declared.site.Site.{Site}
 use Rattle.auth_io.proofs.Later.{later_none, later_trans, rose_later}
 use Rattle.auth_io.proofs.Passing.{Adds_trans, Adds_none, AddsAsked_trans, AddsAsked_none}
-use Rattle.auth_io.specs.Files.{Contents, AddsAsked, ReadRose, ReplaceRose, read_entry, contents_after}
+use Rattle.auth_io.specs.Files.{Contents, AddsAsked, read_entry, contents_after}
 use Rattle.auth_io.specs.Told.{Adds}
 use Rattle.auth_io.specs.declared.files.Ending.{Ending}
 use Rattle.connection_loop.specs.declared.responder.Lack.{Lack}
 use Rattle.connection_loop.specs.declared.responder.Lack.TheVariants.{Random, Worn}
 use Rattle.nonce_shard.proofs.Grown.{grows_then, grows_none}
 use Rattle.nonce_shard.specs.Seat.{Made, Grows}
-use Rattle.origin_core.specs.Events.{ContentsPass, FaultsPass, IsSound, calls_in, files_in, replaced_by, words_in}
+use Rattle.origin_core.specs.Events.{ContentsPass, FaultsPass, IsSound, calls_in, files_in, words_in}
 use Rattle.origin_core.specs.Outside.{FilesState, TableState, Outside, FilesPassed, TablePassed, Passed, LackedBy}
-use Rattle.origin_core.specs.Serving.{setting}
 use Rattle.origin_core.specs.declared.events.Event.{Event}
 use Rattle.origin_core.specs.declared.events.Event.TheVariants.{CredentialsRead, Drew, Called, FileRead, FileReplaced}
 use Rattle.origin_core.specs.declared.events.Operation.{Operation}
@@ -102,7 +99,3 @@ pub lacked_later : (u v w : TableState) (xs : List Event) → TablePassed u v xs
 lacked_later u v w xs p Random operation q = (q.0, rose_later u.faults v.faults w.faults p.later q.1)
 lacked_later u v w xs p (Worn calls) operation q =
     (q.0, q.1, q.2, subst (λ (n : ℕ). q.0 < n) p.calls.same.shards q.3, q.4, q.5 ∙ p.calls.same.limit)
-
--- the setting stays
-pub setting_stays : (a b : Site) (u v : Outside) (xs : List Event) → b ≡ a → Passed u v xs → setting b v.table.seat.shards ≡ setting a u.table.seat.shards
-setting_stays a b u v xs same p = ap (λ (s : Site). setting s v.table.seat.shards) same ∙ ap (setting a) p.table.calls.same.shards

@@ -1,6 +1,7 @@
 //! The server of a site over one connection: each request is decided, and answered by a file or by a challenge.
 #![tactic(auto)]
 
+mod alone;
 mod carrying;
 mod deciding;
 mod events;
@@ -12,6 +13,7 @@ mod replies;
 mod serving;
 mod setting;
 
+pub use alone::{CONNECTION_CALLS, serve_alone};
 pub use carrying::reply_for;
 pub use events::{Event, Operation};
 pub use names::file_name;

@@ -1,4 +1,3 @@
-use Rattle.std.proofs.Common.{ap}
 use Rattle.origin_core.proofs.Plans.{refuses}
 use Rattle.origin_core.proofs.carrying.carry_out.Goals as goal
 

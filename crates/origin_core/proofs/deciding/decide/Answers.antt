@@ -1,4 +1,4 @@
-use Rattle.std.proofs.Common.{◌≡◌, ◌∙◌, ap, refl}
+use Rattle.std.proofs.Common.{◌∙◌, ap, refl}
 use Rattle.auth_decide.specs.Decisions.{Deciding}
 use Rattle.origin_core.proofs.Asking.{after_draw, call_is_for, after_call, within}
 use Rattle.origin_core.proofs.Decisions.{goes_called, goes_drew, goes_no_draw, goes_no_memory, goes_start, goes_verdict, goes_worn, question_is, start_no_memory}

@@ -1,0 +1,44 @@
+//! Serving one connection with a table of its own.
+ghost use Rattle.std.specs.Prelude.{◌≡◌, ◌≢◌, ◌≤◌, ℕ, []};
+ghost use Rattle.auth_io.specs.Causes.{Rose};
+ghost use Rattle.connection_loop.specs.Account.{link_of};
+ghost use Rattle.connection_loop.specs.Results.{ServesSession};
+ghost use Rattle.nonce_shard.specs.Journal.{seat_of};
+ghost use Rattle.origin_core.specs.Outside.{Passed, LackedBy, files_state, table_state, outside_of};
+ghost use Rattle.origin_core.specs.Serving.{origin, setting};
+
+use crate::serving::serve_connection;
+use auth_decide::Site;
+use auth_io::{Clock, Files, Link, Words};
+use connection_loop::{ServeError, Served};
+use nonce_shard::JournalTable;
+use std::alloc::Global;
+
+/// How many calls of the nonce table one connection can make: three for each of its 4096 requests.
+pub const CONNECTION_CALLS: u32 = 12_288;
+
+/// Serves one connection as `serve_connection` does, with a new table that nobody else uses. It has room for all calls
+/// that a connection can make, so it is never worn.
+pub fn serve_alone<L: Link, F: Files, C: Clock, W: Words>(
+    alloc: Global,
+    link: &mut L,
+    files: &mut F,
+    clock: &mut C,
+    random: &mut W,
+    table: &mut JournalTable,
+    site: &Site,
+) -> Result<Served, ServeError>
+    requires new { table.old.calls ≡ [] }
+    requires room { 12288 ≤ table.old.limit }
+    ensures session { let link_at = link_of L.left L.given L.written L.reads in
+        let files_at = files_state F.contents F.asked F.faults in
+        let table_at = table_state W.drawn W.faults seat_of in
+        ServesSession origin (LackedBy (table_at random.old table.old) (table_at random.new table.new))
+        (Passed (outside_of (files_at files.old) (table_at random.old table.old)) (outside_of (files_at files.new) (table_at random.new table.new)))
+        (link_at link.old) (link_at link.new) (C.shown clock.old) (C.shown clock.new) (setting site.now 1) (setting site.now 1) result }
+    ensures never_worn { (calls : ℕ) → result ≢ Err (ServeError.Worn calls) }
+    ensures read_fault { result ≡ Err ServeError.ReadFault → Rose (L.read_faults link.old) (L.read_faults link.new) }
+    ensures write_fault { result ≡ Err ServeError.WriteFault → Rose (L.write_faults link.old) (L.write_faults link.new) }
+{
+    serve_connection(alloc, link, files, clock, random, table, site)
+}
