@@ -1,2 +1,6 @@
+pub mod Follows
+pub mod Kinds
+pub mod LineFaults
+pub mod Lines
 pub mod Spaces
 pub mod Texts

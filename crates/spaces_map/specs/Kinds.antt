@@ -1,0 +1,54 @@
+-- How a text of spaces names what a space offers.
+use Rattle.std.specs.Prelude.{◌≡◌, ◌<◌, ℕ, Bool, true, false, ◌&&◌, not, List, [], ◌∷◌, ◌++◌, length, map, codes}
+use Rattle.std.specs.List.{join_with_byte, list_any}
+use Rattle.auth_hash.specs.Algorithm.{same_algorithm}
+use Rattle.auth_hash.specs.declared.algorithm.Algorithm.{Algorithm}
+use Rattle.auth_hash.specs.declared.algorithm.Algorithm.TheVariants.{Md5, Sha256, Sha512t256}
+use Rattle.spaces_map.specs.Follows.{EachFits}
+use Rattle.spaces_map.specs.declared.space.Offer.{Offer}
+use Rattle.spaces_map.specs.declared.space.OfferKind.{OfferKind}
+use Rattle.spaces_map.specs.declared.space.OfferKind.TheVariants.{Digest}
+
+-- the name of an algorithm (RFC 7616 section 6.1)
+abbrev pub algorithm_name : Algorithm → List ℕ
+algorithm_name Md5 = codes "MD5"
+algorithm_name Sha256 = codes "SHA-256"
+algorithm_name Sha512t256 = codes "SHA-512-256"
+
+-- what stands at the end where the flag is set
+abbrev pub flag_text : List ℕ → Bool → List ℕ
+flag_text flag true = flag
+flag_text flag false = []
+
+-- the name of a kind, that of a session variant with `-sess`
+abbrev pub kind_name : OfferKind → List ℕ
+kind_name (Digest alg session) = algorithm_name alg ++ flag_text (codes "-sess") session
+
+-- an offer: the name of its kind, then `+int`, then `+hash`
+abbrev pub offer_text : Offer → List ℕ
+offer_text offer = (kind_name offer.kind ++ flag_text (codes "+int") offer.auth_int) ++ flag_text (codes "+hash") offer.userhash
+
+-- the offers with a comma between each two
+abbrev pub kinds_text : List Offer → List ℕ
+kinds_text offers = join_with_byte 44 (map offer_text offers)
+
+abbrev pub same_flag : Bool → Bool → Bool
+same_flag true b = b
+same_flag false b = not b
+
+-- whether two kinds are one
+abbrev pub same_kind : OfferKind → OfferKind → Bool
+same_kind (Digest a s) (Digest b t) = same_algorithm a b && same_flag s t
+
+-- whether an offer is of this kind
+abbrev pub has_kind : OfferKind → List Offer → Bool
+has_kind kind offers = list_any (λ offer. same_kind offer.kind kind) offers
+
+-- the offer is of another kind than each before it
+abbrev pub IsOther : List Offer → Offer → Type 0
+IsOther before offer = has_kind offer.kind before ≡ false
+
+-- offers that a space may have: at least one, no two of one kind
+pub record IsOffers (offers : List Offer) : Type 0 where
+  pub some : 0 < length offers
+  pub apart : EachFits IsOther [] offers

@@ -1,0 +1,122 @@
+//! Reading what a space offers.
+ghost use Rattle.std.specs.Prelude.{◌≡◌, ◌≢◌, ◌++◌, ℕ, List, IfOk, IfSome, IfNone, false};
+ghost use Rattle.auth_hash.specs.declared.algorithm.Algorithm.{Algorithm as AlgorithmValue};
+ghost use Rattle.spaces_map.specs.Kinds.{IsOffers, algorithm_name, flag_text, has_kind, kind_name, kinds_text, offer_text, same_flag, same_kind};
+ghost use Rattle.spaces_map.specs.declared.space.Offer.{Offer as OfferValue};
+ghost use Rattle.spaces_map.specs.declared.space.OfferKind.{OfferKind as OfferKindValue};
+
+use crate::space::{Offer, OfferKind, OfferList};
+use auth_grammar::{OutOfMemory, before};
+use auth_hash::Algorithm;
+use std::alloc::Global;
+
+/// The text without the flag at its end, and whether it was there.
+fn split_flag<'t>(text: &'t [u8], flag: &[u8]) -> (&'t [u8], bool)
+    ensures text { text.now ≡ result.0.now ++ flag_text flag.now result.1 }
+    ensures absent { result.1 ≡ false → (front : List ℕ) → text.now ≢ front ++ flag.now }
+{
+    match before(text, flag) {
+        Some(rest) => (rest, true),
+        None => (text, false),
+    }
+}
+
+/// The algorithm of this name, in exactly this spelling.
+fn algorithm_named(name: &[u8]) -> Option<Algorithm>
+    ensures some { IfSome result (λ alg. name.now ≡ algorithm_name alg) }
+    ensures none { IfNone result ((alg : AlgorithmValue) → name.now ≢ algorithm_name alg) }
+{
+    if name == b"MD5".as_slice() {
+        return Some(Algorithm::Md5);
+    }
+    if name == b"SHA-256".as_slice() {
+        return Some(Algorithm::Sha256);
+    }
+    if name == b"SHA-512-256".as_slice() {
+        return Some(Algorithm::Sha512t256);
+    }
+    None
+}
+
+/// The kind of this name.
+fn kind_named(name: &[u8]) -> Option<OfferKind>
+    ensures some { IfSome result (λ kind. name.now ≡ kind_name kind) }
+    ensures none { IfNone result ((kind : OfferKindValue) → name.now ≢ kind_name kind) }
+{
+    let (name, session) = split_flag(name, b"-sess");
+    let Some(alg) = algorithm_named(name) else {
+        return None;
+    };
+    Some(OfferKind::Digest { alg, session })
+}
+
+/// The offer of a part between commas.
+fn offer_in(part: &[u8]) -> Option<Offer>
+    ensures some { IfSome result (λ offer. part.now ≡ offer_text offer) }
+    ensures none { IfNone result ((offer : OfferValue) → part.now ≢ offer_text offer) }
+{
+    let (part, userhash) = split_flag(part, b"+hash");
+    let (name, auth_int) = split_flag(part, b"+int");
+    let Some(kind) = kind_named(name) else {
+        return None;
+    };
+    Some(Offer {
+        kind,
+        auth_int,
+        userhash,
+    })
+}
+
+fn same_flag(a: bool, b: bool) -> bool
+    ensures { result ≡ same_flag a b }
+{
+    if a { b } else { !b }
+}
+
+fn same_kind(a: OfferKind, b: OfferKind) -> bool
+    ensures { result ≡ same_kind a b }
+{
+    let OfferKind::Digest { alg, session } = a;
+    let OfferKind::Digest {
+        alg: other,
+        session: by_session,
+    } = b;
+    alg.is(other) && same_flag(session, by_session)
+}
+
+/// Whether an offer is of this kind.
+fn has_kind(offers: &[Offer], kind: OfferKind) -> bool
+    ensures { result ≡ has_kind kind offers.now }
+{
+    offers.iter().any(|offer| same_kind(offer.kind, kind))
+}
+
+/// The offer of a part between commas, where its kind is another than each before.
+fn other_offer(before: &[Offer], part: &[u8]) -> Option<Offer>
+    ensures some { IfSome result (λ offer. part.now ≡ offer_text offer) }
+    ensures other { IfSome result (λ offer. has_kind offer.kind before.now ≡ false) }
+    ensures none { IfNone result ((offer : OfferValue) → has_kind offer.kind before.now ≡ false → part.now ≢ offer_text offer) }
+{
+    let Some(offer) = offer_in(part) else {
+        return None;
+    };
+    if has_kind(before, offer.kind) {
+        return None;
+    }
+    Some(offer)
+}
+
+/// The offers of a text of kinds.
+pub(crate) fn offers_in(alloc: Global, kinds: &[u8]) -> Result<Option<OfferList>, OutOfMemory>
+    ensures some { IfOk result (λ found. IfSome found (λ offers. IsOffers offers × (kinds.now ≡ kinds_text offers))) }
+    ensures none { IfOk result (λ found. IfNone found ((offers : List OfferValue) → IsOffers offers → kinds.now ≢ kinds_text offers)) }
+{
+    let mut offers = OfferList::new(alloc);
+    for part in kinds.split(|&byte| byte == b',') {
+        let Some(offer) = other_offer(offers.as_slice(), part) else {
+            return Ok(None);
+        };
+        offers.push(offer)?;
+    }
+    Ok(Some(offers))
+}
