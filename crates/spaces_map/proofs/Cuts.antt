@@ -50,9 +50,9 @@ lacks_cons d x a p q = neither (x == d) _ p q
 
 differs : (P : ℕ → Bool) (d x : ℕ) → P d ≡ false → P x ≡ true → (x == d) ≡ false
 differs P d x other is = elim (x == d) as (λ v. (x == d) ≡ v → v ≡ false) [
-    true ↦ λ e. absurd (true≢false (sym is ∙ ap P (eqb-true x d e) ∙ other))
+  | true ↦ λ e. absurd (true≢false (sym is ∙ ap P (eqb-true x d e) ∙ other))
   | false ↦ λ e. refl
-  ] refl
+] refl
 
 -- bytes of a kind that the byte is not of
 pub lacks_by : (P : ℕ → Bool) (d : ℕ) → P d ≡ false → (text : List ℕ) → list_all P text ≡ true → Lacks d text

@@ -27,9 +27,9 @@ slash_lacks d other prefix is =
 pub prefix_lacks : (d : ℕ) → is_visible d ≡ false → (47 == d) ≡ false → (prefix : List ℕ) → is_prefix prefix ≡ true → Lacks d prefix
 prefix_lacks d hidden other prefix is =
     elim (bytes_eq prefix (47 ∷ [])) as (λ v. bytes_eq prefix (47 ∷ []) ≡ v → Lacks d prefix) [
-      true ↦ λ e. slash_lacks d other prefix e
-    | false ↦ λ e. lacks_by is_visible d hidden prefix
-        (both_second (not (ends_with nat_eq prefix (47 ∷ []))) _ (both_second (starts_with nat_eq prefix (47 ∷ [])) _ (either (bytes_eq prefix (47 ∷ [])) _ is e)))
+      | true ↦ λ e. slash_lacks d other prefix e
+      | false ↦ λ e. lacks_by is_visible d hidden prefix
+          (both_second (not (ends_with nat_eq prefix (47 ∷ []))) _ (both_second (starts_with nat_eq prefix (47 ∷ [])) _ (either (bytes_eq prefix (47 ∷ [])) _ is e)))
     ] refl
 
 pub mode_lacks : (mode : Mode) → Lacks 32 (mode_name mode)
@@ -49,7 +49,7 @@ asked_one_line : (mode : Mode) (offers : List Offer) (realm : List ℕ) → IsAs
 asked_one_line mode offers realm asked =
     lacks_append 10 (mode_name mode) (32 ∷ (kinds_text offers ++ 32 ∷ realm)) (mode_one_line mode)
     (lacks_cons 10 32 (kinds_text offers ++ 32 ∷ realm) refl
-      (lacks_append 10 (kinds_text offers) (32 ∷ realm) (kinds_lack 10 refl refl offers) (lacks_cons 10 32 realm refl (realm_one_line realm asked.plain))))
+    (lacks_append 10 (kinds_text offers) (32 ∷ realm) (kinds_lack 10 refl refl offers) (lacks_cons 10 32 realm refl (realm_one_line realm asked.plain))))
 
 terms_one_line : (mode : Mode) (offers : List Offer) (realm : List ℕ) → IsTerms mode offers realm → Lacks 10 (terms_text mode offers realm)
 terms_one_line Open offers realm terms = refl

@@ -40,8 +40,8 @@ begins path prefix rest is =
 pub outside : (path prefix : List ℕ) → ((rest : List ℕ) → path ≢ prefix ++ rest) → false ≡ bytes_eq path prefix || starts_with nat_eq path (prefix ++ 47 ∷ [])
 outside path prefix none =
     sym (neither (bytes_eq path prefix) (starts_with nat_eq path (prefix ++ 47 ∷ []))
-      (not_true (bytes_eq path prefix) (λ e. none [] ((bytes_eq-Decides path prefix).0 e ∙ sym (append-nil prefix))))
-      (not_true (starts_with nat_eq path (prefix ++ 47 ∷ [])) (λ e. none (47 ∷ drop (length (prefix ++ 47 ∷ [])) path) (goes_on path prefix e))))
+    (not_true (bytes_eq path prefix) (λ e. none [] ((bytes_eq-Decides path prefix).0 e ∙ sym (append-nil prefix))))
+    (not_true (starts_with nat_eq path (prefix ++ 47 ∷ [])) (λ e. none (47 ∷ drop (length (prefix ++ 47 ∷ [])) path) (goes_on path prefix e))))
 
 pub itself : (path prefix rest : List ℕ) → path ≡ prefix ++ rest → length rest < 1 → true ≡ bytes_eq path prefix || starts_with nat_eq path (prefix ++ 47 ∷ [])
 itself path prefix [] is short =
@@ -57,11 +57,11 @@ not_nil x a e = cc
 further : (path prefix : List ℕ) (x : ℕ) (rest : List ℕ) → path ≡ prefix ++ x ∷ rest → (x == 47) ≡ bytes_eq path prefix || starts_with nat_eq path (prefix ++ 47 ∷ [])
 further path prefix x rest is =
     let other : bytes_eq path prefix ≡ false = not_true (bytes_eq path prefix)
-        (λ e. not_nil x rest (append_cancel_left prefix (x ∷ rest) [] (sym is ∙ (bytes_eq-Decides path prefix).0 e ∙ sym (append-nil prefix)))) in
+    (λ e. not_nil x rest (append_cancel_left prefix (x ∷ rest) [] (sym is ∙ (bytes_eq-Decides path prefix).0 e ∙ sym (append-nil prefix)))) in
     same_bool (x == 47) (starts_with nat_eq path (prefix ++ 47 ∷ []))
-      (λ e. begins path prefix rest (is ∙ ap (λ (n : ℕ). prefix ++ n ∷ rest) (eqb-true x 47 e)))
-      (λ e. eq-eqb x 47 (head_is x 47 rest (drop (length (prefix ++ 47 ∷ [])) path)
-        (append_cancel_left prefix (x ∷ rest) (47 ∷ drop (length (prefix ++ 47 ∷ [])) path) (sym is ∙ goes_on path prefix e))))
+    (λ e. begins path prefix rest (is ∙ ap (λ (n : ℕ). prefix ++ n ∷ rest) (eqb-true x 47 e)))
+    (λ e. eq-eqb x 47 (head_is x 47 rest (drop (length (prefix ++ 47 ∷ [])) path)
+    (append_cancel_left prefix (x ∷ rest) (47 ∷ drop (length (prefix ++ 47 ∷ [])) path) (sym is ∙ goes_on path prefix e))))
     ∙ sym (ap (λ (b : Bool). b || starts_with nat_eq path (prefix ++ 47 ∷ [])) other)
 
 pub beyond : (path prefix rest : List ℕ) → path ≡ prefix ++ rest → 1 ≤ length rest →
@@ -126,8 +126,8 @@ found_has path before (x ∷ spaces) each =
     let fits : Space → Bool = λ space. holds space.prefix path in
     let more : IfSome (longest (filter fits spaces)) HasTerms = found_has path (before ++ x ∷ []) spaces each.1 in
     elim (holds x.prefix path) as (λ v. IfSome (longest (cond v (x ∷ filter fits spaces) (filter fits spaces))) HasTerms) [
-      true ↦ longer_has x (longest (filter fits spaces)) each.0.line.terms more
-    | false ↦ more
+      | true ↦ longer_has x (longest (filter fits spaces)) each.0.line.terms more
+      | false ↦ more
     ]
 
 pub copied_has : (P : Space → Type 0) (found : Option (Bor Space)) → IfSome (option_copied found) P → IfSome found (λ space. P space.now)

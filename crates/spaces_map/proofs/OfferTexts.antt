@@ -176,8 +176,8 @@ pub no_more : (kinds : List ℕ) (before : List Offer) (part : List ℕ) (n : �
 no_more kinds before part n names at none =
     let parts = parts_of kinds in
     no_offers kinds before part (drop (suc n) parts) (
-      sym (take-append-drop n parts) ∙ ap (λ (l : List (List ℕ)). l ++ drop n parts) (sym names) ∙ ap (λ (l : List (List ℕ)). map offer_text before ++ l) (drop-cons parts n part at.0)
-      ∙ ap (λ (l : List ℕ). map offer_text before ++ l ∷ drop (suc n) parts) (sym at.1)
+    sym (take-append-drop n parts) ∙ ap (λ (l : List (List ℕ)). l ++ drop n parts) (sym names) ∙ ap (λ (l : List (List ℕ)). map offer_text before ++ l) (drop-cons parts n part at.0)
+    ∙ ap (λ (l : List ℕ). map offer_text before ++ l ∷ drop (suc n) parts) (sym at.1)
     ) none
 
 -- one more offer

@@ -19,8 +19,8 @@ use Rattle.spaces_map.proofs.LineTexts.{one_line}
 pub place_is : (p n : ℕ) (r : Option ℕ) → p ≤ n → r ≡ cond (ltb p n) (Some p) None → unwrap_or r n ≡ p
 place_is p n r fits is =
     elim (ltb p n) as (λ v. ltb p n ≡ v → r ≡ cond v (Some p) None → unwrap_or r n ≡ p) [
-      true ↦ λ e same. ap (λ (o : Option ℕ). unwrap_or o n) same
-    | false ↦ λ e same. let above : n ≤ p = ltb-false p n e in let end : n ≡ p = omega arith in ap (λ (o : Option ℕ). unwrap_or o n) same ∙ end
+      | true ↦ λ e same. ap (λ (o : Option ℕ). unwrap_or o n) same
+      | false ↦ λ e same. let above : n ≤ p = ltb-false p n e in let end : n ≡ p = omega arith in ap (λ (o : Option ℕ). unwrap_or o n) same ∙ end
     ] refl is
 
 -- ---- the first line
@@ -68,13 +68,12 @@ fault_of text rest line more spaces so_far cut first (BadLine at) fault =
     let some : rest ≢ [] = λ e. not_nil line more (sym cut ∙ e) in
     let reaches : Reaches text at spaces rest = record { spaces = so_far.0; is = so_far.1; at = fault.0 } in
     elim fault.1 [
-      inl full ↦ inr (spaces, rest, reaches, some, inl full)
-    | inr none ↦ inr (spaces, rest, reaches, some, inr (other_line rest line more cut first none))
+      | inl full ↦ inr (spaces, rest, reaches, some, inl full)
+      | inr none ↦ inr (spaces, rest, reaches, some, inr (other_line rest line more cut first none))
     ]
 fault_of text rest line more spaces so_far cut first (SamePrefix at) fault =
     let repeat = fault.2 in
-    let is : rest ≡ space_line repeat.0 ++ more = cut ∙ ap (λ (l : List ℕ). l ++ 10 ∷ more) repeat.2 ∙ sym (line_first repeat.0 more) in
-    (
+    let is : rest ≡ space_line repeat.0 ++ more = cut ∙ ap (λ (l : List ℕ). l ++ 10 ∷ more) repeat.2 ∙ sym (line_first repeat.0 more) in (
       spaces,
       repeat.0,
       more,
@@ -92,14 +91,13 @@ next_line text rest line more spaces space so_far cut is follows room =
     let count = length_push spaces space in
     let few : length (spaces ++ space ∷ []) ≤ 256 = omega arith in
     let lines : List Space → List ℕ = λ l. flat_map space_line l in
-    let one : rest ≡ space_line space ++ more = cut ∙ ap (λ (l : List ℕ). l ++ 10 ∷ more) is ∙ sym (line_first space more) in
-    (
+    let one : rest ≡ space_line space ++ more = cut ∙ ap (λ (l : List ℕ). l ++ 10 ∷ more) is ∙ sym (line_first space more) in (
       record { few = few; each = fits_push MayFollow [] spaces space so_far.0.each follows },
       so_far.1 ∙ ap (λ (l : List ℕ). spaces_text spaces ++ l) one ∙ sym (append_assoc (spaces_text spaces) (space_line space) more)
-        ∙ ap (λ (l : List ℕ). l ++ more) (
+          ∙ ap (λ (l : List ℕ). l ++ more) (
           append_assoc header (lines spaces) (space_line space) ∙ ap (λ (l : List ℕ). header ++ (lines spaces ++ l)) (sym (append-nil (space_line space)))
           ∙ ap (λ (l : List ℕ). header ++ l) (sym (flat_map-append space_line spaces (space ∷ [])))
-        ),
+          ),
     )
 
 -- nothing left

@@ -14,8 +14,8 @@ loop-space-preserved c =
     let within : c.loop-space.space-index < length spaces = omega arith in
     let tested : holds item.prefix path ≡ c.holds.result = ap (λ (p : List ℕ). holds p path) (sym c.bytes.ensures) ∙ sym c.holds.ensures in
     elim c.if-holds.branch [
-      then-holds w ↦ ap option_copied w.best-is ∙ ap (λ (s : Space). Some s) w.later_of.ensures
-        ∙ one_held path spaces c.loop-space.space-index item (option_copied c.loop-space.best) within c.space-item.is c.loop-space.invariant (tested ∙ w.if-holds.true)
-    | else-holds w ↦ ap option_copied w.best-is
-        ∙ none_held path spaces c.loop-space.space-index item (option_copied c.loop-space.best) within c.space-item.is c.loop-space.invariant (tested ∙ w.if-holds.false)
+      | then-holds w ↦ ap option_copied w.best-is ∙ ap (λ (s : Space). Some s) w.later_of.ensures
+          ∙ one_held path spaces c.loop-space.space-index item (option_copied c.loop-space.best) within c.space-item.is c.loop-space.invariant (tested ∙ w.if-holds.true)
+      | else-holds w ↦ ap option_copied w.best-is
+          ∙ none_held path spaces c.loop-space.space-index item (option_copied c.loop-space.best) within c.space-item.is c.loop-space.invariant (tested ∙ w.if-holds.false)
     ]

@@ -13,7 +13,7 @@ place c =
     c.unwrap_or.ensures
     ∙ place_is _ _ c.position.result (prefix_len-le-length (λ (space : Space). not (bytes_eq space.realm c.args.realm.now)) c.args.spaces.now)
     (position_from_yields_List (λ (space : Space). bytes_eq space.realm c.args.realm.now) _ _ c.position.result c.position.ensures.ran
-      (YieldsList-from_slice c.args.spaces.now cc) (λ x b q h. search (rules, tests)))
+    (YieldsList-from_slice c.args.spaces.now cc) (λ x b q h. search (rules, tests)))
 
 pub returns-clause-place : goal.returns-clause-place
 returns-clause-place c = place c

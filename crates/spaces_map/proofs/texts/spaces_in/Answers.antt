@@ -20,7 +20,7 @@ returns-in_default-cut_at-clause-fault c =
 pub returns-in_err-next_space-clause-fault : goal.returns-in_err-next_space-clause-fault
 returns-in_err-next_space-clause-fault c =
     let fault = fault_of c.args.text.now c.loop-rest.rest.now c.in-Some-cut_at.line.now c.in-Some-cut_at.more.now c.loop-rest.spaces c.loop-rest.invariant
-        c.in-Some-cut_at.ensures.some c.in-Some-cut_at.ensures.first c.in_err-next_space.field-0.0 (rw c.as_slice-in-loop-rest.ensures at c.in_err-next_space.ensures.fault) in
+    c.in-Some-cut_at.ensures.some c.in-Some-cut_at.ensures.first c.in_err-next_space.field-0.0 (rw c.as_slice-in-loop-rest.ensures at c.in_err-next_space.ensures.fault) in
     let p = err_from_is_err_and c.from_residual.result c.from_residual.ensures.1 in
     rw (p.1, p.2) fault
 
@@ -29,4 +29,4 @@ loop-rest-preserved c =
     let P : List Space → Type 0 = λ l. IsSpaces l × (c.args.text.now ≡ spaces_text l ++ c.in-Some-cut_at.more.now) in
     subst P (sym c.in_ok-push.ensures.ok)
     (next_line c.args.text.now c.loop-rest.rest.now c.in-Some-cut_at.line.now c.in-Some-cut_at.more.now c.loop-rest.spaces c.in_ok-next_space.field-0
-      c.loop-rest.invariant c.in-Some-cut_at.ensures.some c.in_ok-next_space.ensures.text (rw c.as_slice-in-loop-rest.ensures at c.in_ok-next_space.ensures.fits) (rw c.as_slice-in-loop-rest.ensures at c.in_ok-next_space.ensures.room))
+    c.loop-rest.invariant c.in-Some-cut_at.ensures.some c.in_ok-next_space.ensures.text (rw c.as_slice-in-loop-rest.ensures at c.in_ok-next_space.ensures.fits) (rw c.as_slice-in-loop-rest.ensures at c.in_ok-next_space.ensures.room))
