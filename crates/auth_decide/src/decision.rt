@@ -1,6 +1,6 @@
 //! The decision for one request.
 ghost use Rattle.std.specs.Prelude.{◌≡◌, ◌<◌, ◌≤◌, ◌∷◌, ◌++◌, [], IfOk, IfSome, length, true, option_copied};
-ghost use Rattle.auth_grammar.specs.Plain.{is_plain_name};
+ghost use Rattle.spaces_map.specs.Lines.{IsTerms};
 ghost use Rattle.auth_decide.specs.Asks.{asked, place_of};
 ghost use Rattle.auth_decide.specs.Readings.{Reads, credentials_lines};
 
@@ -52,7 +52,7 @@ impl<'a> Model for Decision<'a> {
 /// The space of a request: that of its target's path, for a proxy that of all paths.
 fn place_of<'s>(role: Role, request: &Request, site: &'s Site) -> Option<&'s Space>
     ensures space { option_copied result ≡ place_of role request.now site.now }
-    ensures realm { IfSome result (λ space. is_plain_name space.now.realm ≡ true) }
+    ensures terms { IfSome result (λ space. IsTerms space.now.mode space.now.offers space.now.realm) }
 {
     match role {
         Role::Origin => site.spaces.space_of(path_of(request.target.bytes())),
