@@ -1,7 +1,7 @@
 -- Flags at the end of a text.
-use Rattle.std.proofs.Common.{◌≡◌, ◌≢◌, ◌==◌, ℕ, Bool, true, false, List, [], ◌∷◌, ◌++◌, refl, sym, ap, ◌∙◌, true≢false}
+use Rattle.std.proofs.Common.{◌≡◌, ◌≢◌, ◌==◌, ℕ, Bool, true, false, List, [], ◌∷◌, ◌++◌, refl, sym, ap, ◌∙◌}
 use Rattle.std.proofs.lemmas.Bool.{eqb-false}
-use Rattle.std.proofs.lemmas.List.{append_cancel_left, append_cancel_right, append-nil}
+use Rattle.std.proofs.lemmas.List.{append_cancel_right, append-nil}
 use Rattle.spaces_map.specs.Kinds.{flag_text}
 
 -- the last byte, 0 where there is none

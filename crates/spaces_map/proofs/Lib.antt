@@ -4,5 +4,6 @@ pub mod Follows
 pub mod OfferTexts
 pub mod LineTexts
 pub mod LookUps
+pub mod OneWay
 pub mod SpaceTexts
 pub mod Turns

@@ -1,17 +1,17 @@
 -- A line is that of one space.
-use Rattle.std.proofs.Common.{◌≡◌, ◌≢◌, ◌==◌, ℕ, Bool, true, false, ◌&&◌, ◌||◌, not, nat_le, List, [], ◌∷◌, ◌++◌, length, codes, refl, sym, ap, ◌∙◌, true≢false}
+use Rattle.std.proofs.Common.{◌≡◌, ◌≢◌, ◌==◌, ℕ, Bool, true, false, ◌&&◌, ◌||◌, not, nat_le, List, [], ◌∷◌, ◌++◌, length, refl, sym, ap, ◌∙◌, true≢false}
 use Rattle.std.proofs.lemmas.Slice.Eq.{bytes_eq-Decides}
 use Rattle.std.specs.Prelude.{nat_eq, bytes_eq}
-use Rattle.std.specs.List.{list_any, list_all, starts_with, ends_with}
+use Rattle.std.specs.List.{list_any, starts_with, ends_with}
 use Rattle.auth_grammar.specs.Plain.{is_plain_byte, is_plain_name}
 use Rattle.spaces_map.specs.Kinds.{IsOffers, kinds_text}
 use Rattle.spaces_map.specs.LineFaults.{IsNoLine}
-use Rattle.spaces_map.specs.Lines.{IsAsked, IsLine, IsNothing, IsTerms, asked_text, is_prefix, is_visible, line_text, mode_name, terms_text}
+use Rattle.spaces_map.specs.Lines.{IsAsked, IsLine, IsTerms, asked_text, is_prefix, is_visible, line_text, mode_name, terms_text}
 use Rattle.spaces_map.specs.declared.space.Mode.{Mode}
 use Rattle.spaces_map.specs.declared.space.Mode.TheVariants.{Open, Optional, Required}
 use Rattle.spaces_map.specs.declared.space.Offer.{Offer}
 use Rattle.spaces_map.specs.declared.space.Space.{Space}
-use Rattle.spaces_map.proofs.Cuts.{Lacks, both_first, both_second, cut_once, has_byte, no_byte, lacks_by, lacks_append, lacks_cons}
+use Rattle.spaces_map.proofs.Cuts.{Lacks, both_second, cut_once, no_byte, lacks_by, lacks_append, lacks_cons}
 use Rattle.spaces_map.proofs.OfferTexts.{kinds_lack}
 
 -- ---- which bytes stand where

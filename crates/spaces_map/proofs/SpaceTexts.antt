@@ -1,12 +1,12 @@
 -- The text of spaces, line by line.
-use Rattle.std.proofs.Common.{◌≡◌, ◌≢◌, ◌<◌, ◌≤◌, ◌+◌, ℕ, Bool, true, false, cond, ltb, List, [], ◌∷◌, ◌++◌, Option, Some, None, length, refl, sym, ap, ◌∙◌, subst, true≢false, arith, inl, inr, append_assoc}
+use Rattle.std.proofs.Common.{◌≡◌, ◌≢◌, ◌<◌, ◌≤◌, ◌+◌, ℕ, true, false, cond, ltb, List, [], ◌∷◌, ◌++◌, Option, Some, None, length, refl, sym, ap, ◌∙◌, subst, arith, inl, inr, append_assoc}
 use Rattle.std.specs.Prelude.{unwrap_or}
 use Rattle.std.specs.List.{flat_map}
 use Rattle.std.proofs.lemmas.Bool.{ltb-false}
 use Rattle.std.proofs.lemmas.Grind.{flat_map-append}
 use Rattle.std.proofs.lemmas.List.{append-nil, length_push}
 use Rattle.spaces_map.specs.LineFaults.{IsLineFault, IsNoLine}
-use Rattle.spaces_map.specs.Lines.{IsLine, line_text}
+use Rattle.spaces_map.specs.Lines.{line_text}
 use Rattle.spaces_map.specs.Texts.{HasNoLine, IsBadLine, IsFault, IsSpaces, MayFollow, Reaches, header, space_line, spaces_text}
 use Rattle.spaces_map.specs.declared.error.SpacesError.{SpacesError}
 use Rattle.spaces_map.specs.declared.error.SpacesError.TheVariants.{BadLine, SamePrefix, OutOfMemory}
@@ -41,10 +41,10 @@ begin text first rest spaces same is none =
 -- ---- a line
 
 -- the end of the line stands in front
-line_first : (space : Space) (more : List ℕ) → space_line space ++ more ≡ line_text space ++ 10 ∷ more
+pub line_first : (space : Space) (more : List ℕ) → space_line space ++ more ≡ line_text space ++ 10 ∷ more
 line_first space more = append_assoc (line_text space) (10 ∷ []) more
 
-not_nil : (a b : List ℕ) → a ++ 10 ∷ b ≢ []
+pub not_nil : (a b : List ℕ) → a ++ 10 ∷ b ≢ []
 not_nil [] b e = cc
 not_nil (x ∷ a) b e = cc
 

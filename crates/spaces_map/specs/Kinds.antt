@@ -1,5 +1,5 @@
 -- How a text of spaces names what a space offers.
-use Rattle.std.specs.Prelude.{◌≡◌, ◌<◌, ℕ, Bool, true, false, ◌&&◌, not, List, [], ◌∷◌, ◌++◌, length, map, codes}
+use Rattle.std.specs.Prelude.{◌≡◌, ◌<◌, ℕ, Bool, true, false, ◌&&◌, not, List, [], ◌++◌, length, map, codes}
 use Rattle.std.specs.List.{join_with_byte, list_any}
 use Rattle.auth_hash.specs.Algorithm.{same_algorithm}
 use Rattle.auth_hash.specs.declared.algorithm.Algorithm.{Algorithm}

@@ -18,6 +18,11 @@ abbrev pub longest : List Space → Option Space
 longest [] = None
 longest (space ∷ spaces) = longer_of space (longest spaces)
 
+-- of the longest so far and a space behind it: the space if its prefix is longer
+abbrev pub later_of : Option Space → Space → Space
+later_of None space = space
+later_of (Some best) space = if nat_lt (length best.prefix) (length space.prefix) then space else best
+
 -- the space of a path
 abbrev pub space_of : List ℕ → List Space → Option Space
 space_of path spaces = longest (filter (λ space. holds space.prefix path) spaces)
@@ -34,8 +39,3 @@ is_required (Some space) = requires_credentials space.mode
 -- the space of `/` is there and required
 abbrev pub proxy_ready : List Space → Bool
 proxy_ready spaces = is_required (space_of (47 ∷ []) spaces)
-
--- of the longest so far and a space behind it: the space if its prefix is longer
-abbrev pub later_of : Option Space → Space → Space
-later_of None space = space
-later_of (Some best) space = if nat_lt (length best.prefix) (length space.prefix) then space else best

@@ -12,6 +12,7 @@ mod texts;
 pub use error::SpacesError;
 pub use space::{Mode, Offer, OfferKind, OfferList, Space};
 pub use spaces::Spaces;
+pub use texts::reads_one_way;
 
 #[cfg(test)]
 mod tests;

@@ -3,6 +3,7 @@ ghost use Rattle.std.specs.Prelude.{◌≡◌, ◌<◌, ◌≤◌, ◌+◌, byte
 ghost use Rattle.std.specs.List.{position_or_len};
 ghost use Rattle.spaces_map.specs.LineFaults.{IsLineFault};
 ghost use Rattle.spaces_map.specs.Lines.{line_text};
+ghost use Rattle.spaces_map.specs.Outcomes.{ReadsOneWay};
 ghost use Rattle.spaces_map.specs.Texts.{IsFault, IsSpaces, MayFollow, has_prefix, number_of, spaces_text};
 
 use crate::error::SpacesError;
@@ -98,3 +99,9 @@ pub(crate) fn spaces_in(alloc: Global, text: &[u8]) -> Result<Sequence<Space>, S
     }
     Ok(spaces)
 }
+
+/// A text is read in one way: it is that of one list of spaces, or it has one first fault.
+#[tactic(auto, using(crate::proofs::OneWay::one_way))]
+pub fn reads_one_way()
+    ensures { ReadsOneWay }
+{}

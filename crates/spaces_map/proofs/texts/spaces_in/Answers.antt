@@ -1,6 +1,5 @@
 use Rattle.std.proofs.Common.{◌≡◌, ◌≢◌, ◌==◌, List, ℕ, [], ◌++◌, length, true≢false, ap, ◌∙◌, subst, sym}
 use Rattle.std.proofs.lemmas.Result.{err_from_is_err_and}
-use Rattle.spaces_map.specs.Lines.{line_text}
 use Rattle.spaces_map.specs.Texts.{IsSpaces, spaces_text}
 use Rattle.spaces_map.specs.declared.space.Space.{Space}
 use Rattle.spaces_map.proofs.SpaceTexts.{header_is, no_header, begin, no_line_feed, fault_of, next_line}
