@@ -32,7 +32,8 @@ pub struct Offer {
 pub type OfferList = Sequence<Offer>;
 
 /// A protection space: the paths that its prefix holds by whole segments. Spaces with one realm have one
-/// number, the place from 0 of the first line with that realm.
+/// number, the place from 0 of the first line with that realm. An open space has no offers, an empty realm
+/// and the number of its own place.
 #[derive(Drop)]
 pub struct Space {
     pub prefix: Octets,

@@ -31,7 +31,8 @@ impl Model for Spaces {
 }
 
 impl Spaces {
-    /// Reads a text of spaces. The first faulty line is named, and a line that is none goes before its prefix.
+    /// Reads a text of spaces, which has at most 256 lines behind the first. Its first faulty line is named: by
+    /// `BadLine` where it is none that may stand there, and else by `SamePrefix`.
     pub fn read(alloc: Global, text: &[u8]) -> Result<Spaces, SpacesError>
         ensures form { IfOk result (λ spaces. IsSpaces spaces) }
         ensures ok { IfOk result (λ spaces. text.now ≡ spaces_text spaces) }
