@@ -1,2 +1,4 @@
-pub mod Lines
-pub mod Entries
+pub mod Parts
+pub mod Order
+pub mod Searches
+pub mod StoreTexts

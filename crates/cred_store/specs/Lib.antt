@@ -1,2 +1,5 @@
+pub mod Kinds
 pub mod LookUps
+pub mod Keys
 pub mod Texts
+pub mod Faults

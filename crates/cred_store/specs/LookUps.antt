@@ -13,10 +13,13 @@ algorithm_of (Digest alg ha1) = alg
 abbrev pub text_of : Secret → List ℕ
 text_of (Digest alg ha1) = ha1
 
--- whether the entry is of this name and realm, with a secret of this algorithm
+-- whether the entry is of this name and realm
+abbrev pub is_of : List ℕ → List ℕ → Entry → Bool
+is_of name realm entry = bytes_eq entry.name name && bytes_eq entry.realm realm
+
+-- whether it is, with a secret of this algorithm
 abbrev pub is_keyed : List ℕ → List ℕ → Algorithm → Entry → Bool
-is_keyed name realm alg entry =
-    (bytes_eq entry.name name && bytes_eq entry.realm realm) && same_algorithm (algorithm_of entry.secret) alg
+is_keyed name realm alg entry = is_of name realm entry && same_algorithm (algorithm_of entry.secret) alg
 
 -- the secret of a name in a realm
 abbrev pub secret_of : List ℕ → List ℕ → Algorithm → List Entry → Option (List ℕ)

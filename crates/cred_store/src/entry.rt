@@ -1,11 +1,16 @@
 //! One entry of a store.
-ghost use Rattle.std.specs.Prelude.{◌≡◌, ◌&&◌, bytes_eq};
+ghost use Rattle.std.specs.Prelude.{◌≡◌, ◌&&◌, IfOk, bytes_eq};
 ghost use Rattle.digest_formulas.specs.Secrets.{user_hash};
-ghost use Rattle.cred_store.specs.LookUps.{algorithm_of, text_of, is_keyed, is_hashed};
+ghost use Rattle.cred_store.specs.Keys.{key_at, key_cmp, key_of};
+ghost use Rattle.cred_store.specs.LookUps.{algorithm_of, text_of, is_of, is_hashed};
+ghost use Rattle.cred_store.specs.Texts.{entry_at};
 
-use auth_grammar::Octets;
+use crate::kind::kind_name;
+use auth_grammar::{Octets, OutOfMemory};
 use auth_hash::{Algorithm, HexText};
 use digest_formulas::user_hash;
+use std::alloc::Global;
+use std::cmp::Ordering;
 
 /// What proves that a client knows the password.
 #[derive(Drop, Clone, Copy)]
@@ -40,15 +45,42 @@ impl Secret {
     }
 }
 
-/// Whether the entry is of this name and realm, with a secret of this algorithm.
-pub(crate) fn is_keyed(entry: &Entry, name: &[u8], realm: &[u8], alg: Algorithm) -> bool
-    ensures { result ≡ is_keyed name.now realm.now alg entry.now }
-{
-    is_of(entry, name, realm) && entry.secret.algorithm().is(alg)
+impl Entry {
+    /// An entry of its own.
+    pub(crate) fn of(
+        alloc: Global,
+        name: &[u8],
+        realm: &[u8],
+        secret: Secret,
+    ) -> Result<Entry, OutOfMemory>
+        ensures { IfOk result (λ e. e ≡ entry_at name.now realm.now secret) }
+    {
+        let name = Octets::of(alloc, name)?;
+        let realm = Octets::of(alloc, realm)?;
+        Ok(Entry {
+            name,
+            realm,
+            secret,
+        })
+    }
 }
 
-fn is_of(entry: &Entry, name: &[u8], realm: &[u8]) -> bool
-    ensures { result ≡ (bytes_eq entry.now.name name.now && bytes_eq entry.now.realm realm.now) }
+/// How the entry's key stands to this one: by name, then realm, then kind.
+pub(crate) fn compare(entry: &Entry, name: &[u8], realm: &[u8], alg: Algorithm) -> Ordering
+    ensures { result ≡ key_cmp (key_of entry.now) (key_at name.now realm.now alg) }
+{
+    let by_kind = kind_name(entry.secret.algorithm()).cmp(kind_name(alg));
+    let by_realm = entry.realm.bytes().cmp(realm);
+    entry
+        .name
+        .bytes()
+        .cmp(name)
+        .then(by_realm.then(by_kind))
+}
+
+/// Whether the entry is of this name and realm.
+pub(crate) fn is_of(entry: &Entry, name: &[u8], realm: &[u8]) -> bool
+    ensures { result ≡ is_of name.now realm.now entry.now }
 {
     entry.name.bytes() == name && entry.realm.bytes() == realm
 }

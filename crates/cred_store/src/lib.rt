@@ -1,12 +1,17 @@
 //! The store of secrets: a text that holds no password, and look-ups in it.
 #![tactic(auto)]
 
+mod entries;
 mod entry;
+mod error;
+mod kind;
+mod line;
 mod store;
 mod text;
 
 pub use entry::{Entry, Secret};
-pub use store::{Store, StoreError};
+pub use error::{LineFault, StoreError};
+pub use store::Store;
 
 #[cfg(test)]
 mod tests;

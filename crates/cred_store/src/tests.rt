@@ -54,7 +54,7 @@ fn texts_of_another_form_are_not_read(rt: HostRuntime) -> Result<(), Fail> {
         b"authstore 1\n:r:md5:939e7578ed9e3c518a452acee763bce9\n",
     ];
     for text in rows {
-        assert!(rt; matches!(Store::read(rt.alloc(), text), Err(StoreError::NotBuilt)));
+        assert!(rt; matches!(Store::read(rt.alloc(), text), Err(StoreError::BadLine { .. })));
     }
     Ok(())
 }

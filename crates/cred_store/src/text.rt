@@ -1,125 +1,130 @@
-//! Reading the text of a store.
-ghost use Rattle.std.specs.Prelude.{IfOk, true, ◌&&◌};
-ghost use Rattle.auth_grammar.specs.Plain.{is_plain_name};
-ghost use Rattle.cred_store.specs.LookUps.{algorithm_of, text_of};
-ghost use Rattle.cred_store.specs.Texts.{IsSecret, IsEntry, entry_text, digits_of};
-ghost use Rattle.cred_store.specs.declared.entry.Entry.{Entry as EntryValue};
-ghost use Rattle.cred_store.specs.declared.entry.Secret.{Secret as SecretValue};
-ghost use Rattle.std.specs.Prelude.{◌≡◌, ◌≢◌, ℕ, List, IfSome, IfNone};
-ghost use Rattle.auth_hash.specs.declared.algorithm.Algorithm.{Algorithm};
-ghost use Rattle.cred_store.specs.Texts.{HasNoColon, IsEntry, line_of, kind_name};
+//! Reading and writing the text of a store.
+ghost use Rattle.std.specs.Prelude.{◌≡◌, ◌≢◌, ◌+◌, ◌<◌, ◌^◌, ◌++◌, ◌∷◌, [], ℕ, List, IfErr, IfOk, OnOk, length};
+ghost use Rattle.std.specs.List.{flat_map};
+ghost use Rattle.cred_store.specs.Faults.{BeginsFaulty, FaultAfter, FaultBehind};
+ghost use Rattle.cred_store.specs.Keys.{IsRising};
+ghost use Rattle.cred_store.specs.Texts.{IsEntry, IsStore, entry_at, entry_line, header, store_text};
 
-use crate::entry::{Entry, Secret};
-use auth_grammar::{Octets, OutOfMemory, cut_at, is_plain_name};
-use auth_hash::{Algorithm, HexText};
+use crate::entry::{Entry, compare};
+use crate::error::{LineFault, StoreError};
+use crate::kind::kind_name;
+use crate::line::{Line, read_line};
+use auth_grammar::{Octets, OutOfMemory, Sequence, cut_at};
 use std::alloc::Global;
+use std::cmp::Ordering;
 
-/// The four parts of a line.
-#[derive(Clone, Copy)]
-pub(crate) struct Parts<'t> {
-    pub(crate) name: &'t [u8],
-    pub(crate) realm: &'t [u8],
-    pub(crate) kind: &'t [u8],
-    pub(crate) value: &'t [u8],
+/// The first line, with its line feed.
+pub(crate) const HEADER: &[u8] = b"authstore 1\n";
+
+/// Reads the entries of a text, which stands behind the first line.
+pub(crate) fn read_entries(alloc: Global, text: &[u8]) -> Result<Vec<Entry>, StoreError>
+    ensures store { IfOk result (λ entries. IsStore entries.items) }
+    ensures few { IfOk result (λ entries. length entries.items < 2 ^ 32) }
+    ensures text { IfOk result (λ entries. text.now ≡ flat_map entry_line entries.items) }
+    ensures err { IfErr result (FaultBehind (header ++ text.now)) }
+{
+    let mut entries = Sequence::new(alloc);
+    let mut rest = text;
+    while !rest.is_empty() {
+        let number = line_number(entries.len())?;
+        let (entry, more) = next_entry(alloc, entries.as_slice(), rest, number)?;
+        entries.push(entry)?;
+        rest = more;
+    }
+    Ok(entries.into_vec())
 }
 
-/// The parts of a line: three colons stand between them, the first three of the line.
-pub(crate) fn parts_of(line: &[u8]) -> Option<Parts<'_>>
-    ensures some { IfSome result (λ p. line.now ≡ line_of p.name.now p.realm.now p.kind.now p.value.now) }
-    ensures none { IfNone result ((name realm kind value : List ℕ) → HasNoColon name → HasNoColon realm → HasNoColon kind → line.now ≢ line_of name realm kind value) }
-    ensures name { IfSome result (λ p. HasNoColon p.name.now) }
-    ensures realm { IfSome result (λ p. HasNoColon p.realm.now) }
-    ensures kind { IfSome result (λ p. HasNoColon p.kind.now) }
+/// The number of the line behind the first one and so many others.
+fn line_number(before: usize) -> Result<u32, OutOfMemory>
+    ensures number { IfOk result (λ number. number ≡ before + 2) }
+    ensures bound { IfOk result (λ number. number < 2 ^ 32) }
 {
-    let Some((name, rest)) = cut_at(line, b':') else {
-        return None;
-    };
-    let Some((realm, rest)) = cut_at(rest, b':') else {
-        return None;
-    };
-    let Some((kind, value)) = cut_at(rest, b':') else {
-        return None;
-    };
-    Some(Parts {
-        name,
-        realm,
-        kind,
-        value,
-    })
+    if before > u32::MAX as usize - 2 {
+        return Err(OutOfMemory);
+    }
+    Ok(before as u32 + 2)
 }
 
-/// The algorithm of a kind's name.
-pub(crate) fn algorithm_named(kind: &[u8]) -> Option<Algorithm>
-    ensures some { IfSome result (λ alg. kind.now ≡ kind_name alg) }
-    ensures none { IfNone result ((alg : Algorithm) → kind.now ≢ kind_name alg) }
+/// Reads the entry with whose line a text begins, which stands behind these entries, and what follows it.
+fn next_entry<'t>(
+    alloc: Global,
+    entries: &[Entry],
+    text: &'t [u8],
+    number: u32,
+) -> Result<(Entry, &'t [u8]), StoreError>
+    requires { text.now ≢ [] }
+    ensures entry { IfOk result (λ r. IsEntry r.0) }
+    ensures text { IfOk result (λ r. text.now ≡ entry_line r.0 ++ r.1.now) }
+    ensures rising { IfOk result (λ r. IsRising entries.now → IsRising (entries.now ++ r.0 ∷ [])) }
+    ensures err { IfErr result (FaultAfter entries.now text.now number) }
 {
-    if kind == b"md5".as_slice() {
-        return Some(Algorithm::Md5);
-    }
-    if kind == b"sha-256".as_slice() {
-        return Some(Algorithm::Sha256);
-    }
-    if kind == b"sha-512-256".as_slice() {
-        return Some(Algorithm::Sha512t256);
-    }
-    None
+    let (line, rest) = match next_line(text) {
+        Ok(read) => read,
+        Err(why) => return Err(StoreError::BadLine { line: number, why }),
+    };
+    check_order(entries, &line, number)?;
+    let entry = Entry::of(alloc, line.name, line.realm, line.secret)?;
+    Ok((entry, rest))
 }
 
-/// How many hexadecimal digits a digest of the algorithm has.
-fn digits_of(alg: Algorithm) -> usize
-    ensures { result ≡ digits_of alg }
+/// Reads the line with which a text begins, and what follows it.
+fn next_line(text: &[u8]) -> Result<(Line<'_>, &[u8]), LineFault>
+    requires { text.now ≢ [] }
+    ensures entry { IfOk result (λ r. IsEntry (entry_at r.0.name.now r.0.realm.now r.0.secret)) }
+    ensures text { IfOk result (λ r. text.now ≡ entry_line (entry_at r.0.name.now r.0.realm.now r.0.secret) ++ r.1.now) }
+    ensures err { IfErr result (λ why. BeginsFaulty why text.now) }
 {
-    match alg {
-        Algorithm::Md5 => 32,
-        Algorithm::Sha256 | Algorithm::Sha512t256 => 64,
+    let Some((line, rest)) = cut_at(text, b'\n') else {
+        return Err(LineFault::Form);
+    };
+    match read_line(line) {
+        Ok(line) => Ok((line, rest)),
+        Err(why) => Err(why),
     }
 }
 
-/// The secret of a kind and a value.
-fn secret_of(kind: &[u8], value: &[u8]) -> Option<Secret>
-    ensures kind { IfSome result (λ s. kind.now ≡ kind_name (algorithm_of s)) }
-    ensures value { IfSome result (λ s. value.now ≡ text_of s) }
-    ensures form { IfSome result (λ s. IsSecret s) }
-    ensures none { IfNone result ((s : SecretValue) → IsSecret s → kind.now ≡ kind_name (algorithm_of s) → value.now ≢ text_of s) }
+/// Whether a line may stand behind these entries.
+fn check_order(entries: &[Entry], line: &Line<'_>, number: u32) -> Result<(), StoreError>
+    ensures rising { OnOk result (IsRising entries.now → IsRising (entries.now ++ entry_at line.now.name.now line.now.realm.now line.now.secret ∷ [])) }
+    ensures err { IfErr result (λ error. (text more : List ℕ) → IsEntry (entry_at line.now.name.now line.now.realm.now line.now.secret) → text ≡ entry_line (entry_at line.now.name.now line.now.realm.now line.now.secret) ++ more → FaultAfter entries.now text number error) }
 {
-    let Some(alg) = algorithm_named(kind) else {
-        return None;
+    let Some(last) = entries.last() else {
+        return Ok(());
     };
-    let Some(ha1) = HexText::read(value) else {
-        return None;
-    };
-    if value.len() != digits_of(alg) {
-        return None;
+    match compare(last, line.name, line.realm, line.secret.algorithm()) {
+        Ordering::Less => Ok(()),
+        Ordering::Equal => Err(StoreError::Repeated { line: number }),
+        Ordering::Greater => Err(StoreError::Unsorted { line: number }),
     }
-    Some(Secret::Digest { alg, ha1 })
 }
 
-/// Whether both may stand in a store.
-fn are_plain(name: &[u8], realm: &[u8]) -> bool
-    ensures { result ≡ (is_plain_name name.now && is_plain_name realm.now) }
+/// The text of the entries.
+pub(crate) fn write_entries(alloc: Global, entries: &[Entry]) -> Result<Octets, OutOfMemory>
+    ensures { IfOk result (λ text. text ≡ store_text entries.now) }
 {
-    is_plain_name(name) && is_plain_name(realm)
+    let mut text = Octets::of(alloc, HEADER)?;
+    for entry in entries {
+        write_line(&mut text, entry)?;
+    }
+    Ok(text)
 }
 
-/// The entry of a line, which has no line feed.
-pub(crate) fn entry_of(alloc: Global, line: &[u8]) -> Result<Option<Entry>, OutOfMemory>
-    ensures some { IfOk result (λ found. IfSome found (λ e. IsEntry e × (line.now ≡ entry_text e))) }
-    ensures none { IfOk result (λ found. IfNone found ((e : EntryValue) → IsEntry e → line.now ≢ entry_text e)) }
+/// Adds the line of an entry.
+fn write_line(text: &mut Octets, entry: &Entry) -> Result<(), OutOfMemory>
+    ensures { OnOk result (text.new ≡ text.old ++ entry_line entry.now) }
 {
-    let Some(parts) = parts_of(line) else {
-        return Ok(None);
-    };
-    if !are_plain(parts.name, parts.realm) {
-        return Ok(None);
-    }
-    let Some(secret) = secret_of(parts.kind, parts.value) else {
-        return Ok(None);
-    };
-    let name = Octets::of(alloc, parts.name)?;
-    let realm = Octets::of(alloc, parts.realm)?;
-    Ok(Some(Entry {
-        name,
-        realm,
-        secret,
-    }))
+    write_part(text, entry.name.bytes(), b':')?;
+    write_part(text, entry.realm.bytes(), b':')?;
+    write_part(text, kind_name(entry.secret.algorithm()), b':')?;
+    write_part(text, entry.secret.text().bytes(), b'\n')?;
+    Ok(())
+}
+
+/// Adds a part of a line, and the byte that ends it.
+fn write_part(text: &mut Octets, part: &[u8], end: u8) -> Result<(), OutOfMemory>
+    ensures { OnOk result (text.new ≡ text.old ++ (part.now ++ end ∷ [])) }
+{
+    text.extend(part)?;
+    text.push(end)?;
+    Ok(())
 }

@@ -1,24 +1,29 @@
-use Rattle.std.proofs.Common.{refl}
-use Rattle.cred_store.proofs.Entries.{header_is, reads, no_header, no_line_feed, no_entry}
+use Rattle.std.proofs.Common.{sym, ap, ◌∙◌, subst, refl, inl, inr, List, ◌++◌, ℕ}
+use Rattle.std.proofs.lemmas.Result.{err_from_is_err_and}
+use Rattle.cred_store.specs.Faults.{FaultBehind}
+use Rattle.cred_store.specs.Texts.{header}
+use Rattle.cred_store.proofs.StoreTexts.{sound}
 use Rattle.cred_store.proofs.store.Store.read.Goals as goal
 
-pub returns-in_default-clause-not_built : goal.returns-in_default-clause-not_built
-returns-in_default-clause-not_built c = λ is e entry. no_header c.args.text.now _ header_is c.in_default.ensures.none e
+pub returns-in_default-clause-fault : goal.returns-in_default-clause-fault
+unfolding header
+returns-in_default-clause-fault c = inl (refl, c.in_default.ensures.none)
 
-pub returns-in_default-before-clause-not_built : goal.returns-in_default-before-clause-not_built
-returns-in_default-before-clause-not_built c =
-    λ is e entry. no_line_feed c.args.text.now _ c.in-Some.rest.now header_is c.in-Some.ensures.some c.in_default-before.ensures.none e
+pub returns-in_default-clause-refused : goal.returns-in_default-clause-refused
+returns-in_default-clause-refused c = sound c.args.text.now _ (returns-in_default-clause-fault c)
 
-pub returns-in_default-2-clause-not_built : goal.returns-in_default-2-clause-not_built
-returns-in_default-2-clause-not_built c =
-    λ is e entry. no_entry c.args.text.now _ c.in-Some.rest.now c.in-Some-before.line.now header_is c.in-Some.ensures.some c.in-Some-before.ensures.some e
-    ((rw c.in_default-2.is at c.in_ok-entry.ensures.none) e entry)
+pub returns-in_err-entries-clause-fault : goal.returns-in_err-entries-clause-fault
+unfolding header
+returns-in_err-entries-clause-fault c =
+    let p = err_from_is_err_and c.from_residual.result c.from_residual.ensures.1 in
+    rw (p.1, p.2) (inr (subst (λ (l : List ℕ). FaultBehind l c.in_err-entries.field-0.0) (sym c.in-Some.ensures.some) c.in_err-entries.ensures.err))
 
-pub returns-clause-ok : goal.returns-clause-ok
-returns-clause-ok c =
-    let found = rw c.in-Some-2.is at c.in_ok-entry.ensures.some in (
-      c.in-Some-2.entry,
-      found.0,
-      refl,
-      reads c.args.text.now _ c.in-Some.rest.now c.in-Some-before.line.now header_is c.in-Some.ensures.some c.in-Some-before.ensures.some c.in-Some-2.entry found.1,
-    )
+pub returns-in_err-entries-clause-refused : goal.returns-in_err-entries-clause-refused
+unfolding header
+returns-in_err-entries-clause-refused c =
+    let p = err_from_is_err_and c.from_residual.result c.from_residual.ensures.1 in
+    rw (p.1, p.2) (sound c.args.text.now _ (inr (subst (λ (l : List ℕ). FaultBehind l c.in_err-entries.field-0.0) (sym c.in-Some.ensures.some) c.in_err-entries.ensures.err)))
+
+pub returns-clause-text : goal.returns-clause-text
+unfolding header
+returns-clause-text c = c.in-Some.ensures.some ∙ ap (λ (l : List ℕ). header ++ l) c.in_ok-entries.ensures.text

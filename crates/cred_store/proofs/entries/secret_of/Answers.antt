@@ -1,0 +1,26 @@
+use Rattle.std.proofs.Common.{Some, None, ap, sym, ◌∙◌, Option}
+use Rattle.std.specs.Option.{option_map}
+use Rattle.cred_store.specs.Keys.{key_at}
+use Rattle.cred_store.specs.LookUps.{is_keyed, text_of}
+use Rattle.cred_store.specs.declared.entry.Entry.{Entry}
+use Rattle.cred_store.proofs.Order.{keyed}
+use Rattle.cred_store.proofs.Searches.{find_alike, find_free, find_there, has_key}
+use Rattle.cred_store.proofs.entries.secret_of.Goals as goal
+
+-- no other entry has the key
+pub returns-in-Ok : goal.returns-in-Ok
+returns-in-Ok c =
+    let k = key_at c.args.name.now c.args.realm.now c.args.alg in
+    let e = c.index-entries-at.result in
+    let there = find_there k c.args.entries.now c.in-Ok.at e c.requires c.in-Ok.ensures.found_bound (c.in-Ok.ensures.found e) in
+    ap Some c.text.ensures
+    ∙ sym (ap (option_map (λ (e : Entry). text_of e.secret))
+      (find_alike (is_keyed c.args.name.now c.args.realm.now c.args.alg) (has_key k) (keyed c.args.name.now c.args.realm.now c.args.alg) c.args.entries.now
+       ∙ there))
+
+pub returns-in-Err : goal.returns-in-Err
+returns-in-Err c =
+    let k = key_at c.args.name.now c.args.realm.now c.args.alg in
+    sym (ap (option_map (λ (e : Entry). text_of e.secret))
+      (find_alike (is_keyed c.args.name.now c.args.realm.now c.args.alg) (has_key k) (keyed c.args.name.now c.args.realm.now c.args.alg) c.args.entries.now
+       ∙ find_free k c.args.entries.now _ c.in-Err.ensures.free))

@@ -1,0 +1,9 @@
+use Rattle.std.proofs.Common.{sym, subst, arith, ◌<◌, ◌^◌, length, [], List}
+use Rattle.std.proofs.lemmas.List.Elements.{All-nil}
+use Rattle.cred_store.specs.Texts.{IsEntry, IsStore}
+use Rattle.cred_store.specs.declared.entry.Entry.{Entry}
+use Rattle.cred_store.proofs.Order.{rising_none}
+use Rattle.cred_store.proofs.store.Store.new.Goals as goal
+
+pub invariant_of-result : goal.invariant_of-result
+invariant_of-result c = rw c.new.ensures.items (record { each = All-nil IsEntry; rising = rising_none }, omega arith)
