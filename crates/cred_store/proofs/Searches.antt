@@ -103,5 +103,5 @@ pub last_is : (xs : List Entry) (l : Entry) → slice_get xs (length xs - 1) ≡
 last_is xs l e =
     let within = slice_get_within xs (length xs - 1) l e in
     let same : get_or xs (length xs - 1) l ≡ l = same_Some _ _ (sym (slice_get-get_or xs (length xs - 1) l within) ∙ e) in
-    let whole : xs ≡ take (length xs - 1 + 1) xs = sym (take_all xs (length xs - 1 + 1) (omega arith)) in
+    let whole : xs ≡ take (length xs - 1 + 1) xs = sym (take_all (length xs - 1 + 1) xs (omega arith)) in
     (take (length xs - 1) xs, whole ∙ take_more xs (length xs - 1) l within ∙ ap (λ (v : Entry). take (length xs - 1) xs ++ v ∷ []) same)
