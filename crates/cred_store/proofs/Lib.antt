@@ -2,3 +2,5 @@ pub mod Parts
 pub mod Order
 pub mod Searches
 pub mod StoreTexts
+pub mod Puts
+pub mod Pairs

@@ -33,11 +33,11 @@ not_true false e = refl
 neither : (a b : Bool) → a ≡ false → b ≡ false → a || b ≡ false
 neither a b p q = ap (λ (x : Bool). x || b) p ∙ q
 
-neither_first : (a b : Bool) → a || b ≡ false → a ≡ false
+pub neither_first : (a b : Bool) → a || b ≡ false → a ≡ false
 neither_first false b e = refl
 neither_first true b e = e
 
-neither_second : (a b : Bool) → a || b ≡ false → b ≡ false
+pub neither_second : (a b : Bool) → a || b ≡ false → b ≡ false
 neither_second false b e = e
 neither_second true b e = absurd (true≢false e)
 
@@ -101,7 +101,7 @@ some_colon_first : (x : ℕ) (a : List ℕ) (v : Bool) → x == 58 ≡ v → v |
 some_colon_first x a true is e more = omega (arith, colons_cons x a, ap one_if is)
 some_colon_first x a false is e more = omega (arith, colons_cons x a, ap one_if is, more e)
 
-some_colon : (a : List ℕ) → list_any (λ b. b == 58) a ≡ true → 0 < colons a
+pub some_colon : (a : List ℕ) → list_any (λ b. b == 58) a ≡ true → 0 < colons a
 some_colon [] e = absurd (true≢false (sym e))
 some_colon (x ∷ a) e = some_colon_first x a (x == 58) refl e (some_colon a)
 

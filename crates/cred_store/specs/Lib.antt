@@ -3,3 +3,5 @@ pub mod LookUps
 pub mod Keys
 pub mod Texts
 pub mod Faults
+pub mod Changes
+pub mod Htdigest

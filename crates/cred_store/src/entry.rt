@@ -63,6 +63,13 @@ impl Entry {
             secret,
         })
     }
+
+    /// A copy of its own.
+    pub(crate) fn copy(&self, alloc: Global) -> Result<Entry, OutOfMemory>
+        ensures { IfOk result (λ e. e ≡ self.now) }
+    {
+        Entry::of(alloc, self.name.bytes(), self.realm.bytes(), self.secret)
+    }
 }
 
 /// How the entry's key stands to this one: by name, then realm, then kind.

@@ -1,9 +1,11 @@
 //! The store of secrets: a text that holds no password, and look-ups in it.
 #![tactic(auto)]
 
+mod changes;
 mod entries;
 mod entry;
 mod error;
+mod htdigest;
 mod kind;
 mod line;
 mod store;

@@ -1,16 +1,24 @@
 //! The store of secrets.
-ghost use Rattle.std.specs.Prelude.{◌≡◌, ◌≢◌, [], List, IfErr, IfOk, length, option_copied};
+ghost use Rattle.std.specs.Prelude.{◌≡◌, ◌≢◌, ◌+◌, ◌-◌, ◌<◌, ◌^◌, ◌&&◌, true, false, [], List, IfErr, IfOk, OnErr, OnOk, length, option_copied};
+ghost use Rattle.std.specs.List.{list_any};
+ghost use Rattle.std.specs.Str.Lines.{lines};
+ghost use Rattle.auth_grammar.specs.Plain.{is_plain_name};
+ghost use Rattle.cred_store.specs.Changes.{put, put_all, without};
 ghost use Rattle.cred_store.specs.Faults.{FirstFault};
-ghost use Rattle.cred_store.specs.LookUps.{secret_of, name_of_hash};
-ghost use Rattle.cred_store.specs.Texts.{IsStore, store_text};
+ghost use Rattle.cred_store.specs.Htdigest.{ArePairs, FirstPairFault, imported};
+ghost use Rattle.cred_store.specs.Kinds.{IsSecret};
+ghost use Rattle.cred_store.specs.LookUps.{is_of, secret_of, name_of_hash};
+ghost use Rattle.cred_store.specs.Texts.{IsStore, entry_at, store_text};
 ghost use Rattle.cred_store.specs.declared.entry.Entry.{Entry as EntryValue};
 ghost use Rattle.cred_store.specs.declared.error.StoreError.TheVariants.{OutOfMemory as NoMemory};
 
+use crate::changes::{copy_of, put, put_all, take_out};
 use crate::entries::{name_of_hash, secret_of};
-use crate::entry::Entry;
+use crate::entry::{Entry, Secret};
 use crate::error::{LineFault, StoreError};
+use crate::htdigest::read_pairs;
 use crate::text::{HEADER, read_entries, write_entries};
-use auth_grammar::{Octets, OutOfMemory, behind};
+use auth_grammar::{Octets, OutOfMemory, behind, is_plain_name};
 use auth_hash::{Algorithm, HexText};
 use std::alloc::Global;
 use std::marker::Model;
@@ -67,6 +75,57 @@ impl Store {
         write_entries(alloc, self.entries.as_slice())
     }
 
+    /// Gives the name a secret in the realm, instead of the one of this algorithm that it had there.
+    /// `BadName` comes exactly where the name or the realm isn't 1 to 64 printable bytes without a
+    /// colon. After an error the store is as it was.
+    pub fn set(
+        &mut self,
+        alloc: Global,
+        name: &[u8],
+        realm: &[u8],
+        secret: &Secret,
+    ) -> Result<(), StoreError>
+        requires room { length self.old < 2 ^ 32 - 1 }
+        requires form { IsSecret secret.now }
+        ensures ok { OnOk result (self.new ≡ put (entry_at name.now realm.now secret.now) self.old) }
+        ensures bad_name { (is_plain_name name.now && is_plain_name realm.now) ≡ false → result ≡ Err StoreError.BadName }
+        ensures memory { (is_plain_name name.now && is_plain_name realm.now) ≡ true → IfErr result (λ error. error ≡ NoMemory) }
+        ensures err { OnErr result (self.new ≡ self.old) }
+    {
+        if !are_plain(name, realm) {
+            return Err(StoreError::BadName);
+        }
+        let entry = Entry::of(alloc, name, realm, *secret)?;
+        put(&mut self.entries, entry)?;
+        Ok(())
+    }
+
+    /// Takes the secrets of a name in a realm out, and tells whether there were any.
+    pub fn remove(&mut self, name: &[u8], realm: &[u8]) -> bool
+        ensures there { result ≡ list_any (is_of name.now realm.now) self.old }
+        ensures left { self.new ≡ without name.now realm.now self.old }
+    {
+        take_out(&mut self.entries, name, realm)
+    }
+
+    /// Sets the MD5 secrets that a text of htdigest says, and tells for how many pairs of a user and
+    /// a realm. After an error the store is as it was.
+    pub fn import_htdigest(&mut self, alloc: Global, text: &[u8]) -> Result<u32, StoreError>
+        requires { length self.old + length text.now < 2 ^ 32 }
+        ensures ok { IfOk result (λ count. (pairs : List EntryValue) × ArePairs (lines text.now) pairs × (count ≡ length (imported pairs)) × (self.new ≡ put_all (imported pairs) self.old)) }
+        ensures fault { IfErr result (FirstPairFault text.now) }
+        ensures err { OnErr result (self.new ≡ self.old) }
+    {
+        let pairs = read_pairs(alloc, text)?;
+        let mut imported = Vec::new(alloc);
+        put_all(&mut imported, pairs)?;
+        let count = imported.len() as u32;
+        let mut entries = copy_of(alloc, self.entries.as_slice())?;
+        put_all(&mut entries, imported)?;
+        self.entries = entries;
+        Ok(count)
+    }
+
     /// How many entries it has.
     pub fn entries(&self) -> u32
         ensures { result ≡ length self.now }
@@ -87,4 +146,11 @@ impl Store {
     {
         name_of_hash(self.entries.as_slice(), alg, realm, hash)
     }
+}
+
+/// Whether both may stand in a store.
+fn are_plain(name: &[u8], realm: &[u8]) -> bool
+    ensures { result ≡ (is_plain_name name.now && is_plain_name realm.now) }
+{
+    is_plain_name(name) && is_plain_name(realm)
 }
