@@ -1,5 +1,5 @@
 -- What the lines of a text of htdigest say.
-use Rattle.std.proofs.Common.{◌≡◌, ◌≢◌, ◌==◌, ◌+◌, ◌<◌, ◌≤◌, ℕ, zero, suc, Bool, true, false, not, cond, List, [], ◌∷◌, ◌++◌, length, filter, All, refl, sym, subst, ap, ◌∙◌, arith, true≢false, if◌then◌else◌}
+use Rattle.std.proofs.Common.{◌≡◌, ◌≢◌, ◌==◌, ◌+◌, ◌<◌, ◌≤◌, ℕ, zero, suc, Bool, true, false, not, cond, List, [], ◌∷◌, ◌++◌, length, filter, All, refl, sym, subst, ap, ◌∙◌, arith, true≢false, if◌then◌else◌, Option, None, Some, IfNone}
 use Rattle.std.specs.List.{AllZip, list_any, slice_split, count_by}
 use Rattle.std.specs.Str.Lines.{lines, lines_of_parts, strip_carriage_return}
 use Rattle.std.proofs.lemmas.Bool.Decides.{nat_tests}
@@ -129,3 +129,7 @@ pair_fault text rest number said h line more error first fault = record {
   are_pairs = h.are_pairs;
   fault = subst (λ n. PairFault line (n + 1) error) h.counts fault;
 }
+
+pub none_weaker : {A P Q : Type 0} (r : Option A) → (P → Q) → IfNone r P → IfNone r Q
+none_weaker None f p = f p
+none_weaker (Some x) f p = tt
