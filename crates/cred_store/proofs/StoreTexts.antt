@@ -1,5 +1,5 @@
 -- A text is that of one store at most.
-use Rattle.std.proofs.Common.{◌≡◌, ◌≢◌, ℕ, ◌+◌, ◌==◌, ◌⊎◌, true, false, List, [], ◌∷◌, ◌++◌, length, All, refl, sym, ap, ◌∙◌, subst, inl, inr, true≢false}
+use Rattle.std.proofs.Common.{◌≡◌, ◌≢◌, ℕ, ◌+◌, ◌==◌, ◌⊎◌, true, false, List, [], ◌∷◌, ◌++◌, length, All, Result, Ok, Err, IfOk, refl, sym, ap, ◌∙◌, subst, inl, inr, true≢false}
 use Rattle.std.specs.List.{flat_map, list_any}
 use Rattle.std.specs.declared.cmp.Ordering.{Ordering}
 use Rattle.std.specs.declared.cmp.Ordering.TheVariants.{Less, Equal, Greater}
@@ -7,11 +7,11 @@ use Rattle.std.proofs.lemmas.List.{append_assoc, append-nil, append_cancel_left}
 use Rattle.std.proofs.lemmas.List.Concat.{flat_map-append}
 use Rattle.std.proofs.lemmas.List.Elements.{All-head, All-tail}
 use Rattle.auth_grammar.specs.Plain.{is_plain_name}
-use Rattle.cred_store.specs.Faults.{ArePartsFaulty, BeginsFaulty, FaultAfter, FaultBehind, FirstFault, HasFaultyParts, HasParts, IsFaulty, NextStands}
+use Rattle.cred_store.specs.Faults.{ArePartsFaulty, BeginsFaulty, FaultAfter, FaultBehind, FirstFault, HasFaultyParts, HasParts, IsFaulty, IsTitleFaulty, NextStands}
 use Rattle.cred_store.specs.Keys.{IsRising, entry_cmp}
 use Rattle.cred_store.specs.Kinds.{IsSecret, kind_name}
 use Rattle.cred_store.specs.LookUps.{algorithm_of, text_of}
-use Rattle.cred_store.specs.Texts.{HasNo, IsEntry, IsStore, entry_text, entry_line, header, store_text}
+use Rattle.cred_store.specs.Texts.{HasNo, IsEntry, IsStore, entry_text, entry_line, header, store_text, title}
 use Rattle.cred_store.specs.declared.entry.Entry.{Entry}
 use Rattle.cred_store.specs.declared.error.LineFault.{LineFault}
 use Rattle.cred_store.specs.declared.error.LineFault.TheVariants.{Form, Name, Realm, Kind, Value, Header}
@@ -106,9 +106,17 @@ sound_after (Unsorted line) before rest n fs tail up h whole is some f = sound_o
 sound_after BadName before rest n fs tail up h whole is some f = f
 sound_after OutOfMemory before rest n fs tail up h whole is some f = some refl
 
+title_alone : (fs : List Entry) → title ≢ store_text fs
+unfolding header
+title_alone fs e = cc
+
+sound_title : (why : LineFault) (whole : List ℕ) (fs : List Entry) → IsTitleFaulty why whole → whole ≢ store_text fs
+sound_title why whole fs (inl form) is = title_alone fs (sym form.1 ∙ is)
+sound_title why whole fs (inr other) is = other.2 (flat_map entry_line fs) is
+
 -- a text with a faulty line is no store's
 pub sound : (whole : List ℕ) (error : StoreError) → FirstFault whole error → error ≢ OutOfMemory → (fs : List Entry) → IsStore fs → whole ≢ store_text fs
-sound whole error (inl none) some fs h is = none.1 (flat_map entry_line fs) is
+sound whole error (inl first) some fs h is = sound_title first.0 whole fs first.2 is
 sound whole error (inr f) some fs h is =
     let cut = begins_with f.before f.rest fs f.is_store.each h.each
         (append_cancel_left header _ _ (sym (append_assoc header (flat_map entry_line f.before) f.rest) ∙ sym f.begins ∙ is)) in
@@ -147,3 +155,8 @@ one_more text before rest e more begins line =
 pub line_written : (text name realm kind value : List ℕ) →
     (((text ++ (name ++ 58 ∷ [])) ++ (realm ++ 58 ∷ [])) ++ (kind ++ 58 ∷ [])) ++ (value ++ 10 ∷ []) ≡ text ++ ((name ++ 58 ∷ (realm ++ 58 ∷ (kind ++ 58 ∷ value))) ++ 10 ∷ [])
 line_written text name realm kind value = simp append_assoc
+
+-- what is read from the text of a store is that store
+pub same_again : (s : List Entry) (text : List ℕ) → IsStore s → text ≡ store_text s → (r : Result (List Entry) StoreError) → IfOk r IsStore → IfOk r (λ t. text ≡ store_text t) → IfOk r (λ t. t ≡ s)
+same_again s text h is (Ok t) g read = one_store t s g.each h.each (sym read ∙ is)
+same_again s text h is (Err error) g read = tt

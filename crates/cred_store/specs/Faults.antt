@@ -8,7 +8,7 @@ use Rattle.auth_hash.specs.declared.algorithm.Algorithm.{Algorithm}
 use Rattle.cred_store.specs.Keys.{entry_cmp}
 use Rattle.cred_store.specs.Kinds.{IsSecret, kind_name}
 use Rattle.cred_store.specs.LookUps.{algorithm_of, text_of}
-use Rattle.cred_store.specs.Texts.{HasNo, IsEntry, IsStore, entry_line, header, line_of, store_text}
+use Rattle.cred_store.specs.Texts.{HasNo, IsEntry, IsStore, entry_line, header, line_of, store_text, title}
 use Rattle.cred_store.specs.declared.entry.Entry.{Entry}
 use Rattle.cred_store.specs.declared.entry.Secret.{Secret}
 use Rattle.cred_store.specs.declared.error.LineFault.{LineFault}
@@ -85,7 +85,12 @@ pub record FaultBehind (whole : List ℕ) (error : StoreError) : Type 0 where
   pub begins : whole ≡ store_text before ++ rest
   pub fault : FaultAfter before rest (length before + 2) error
 
+-- what is wrong with the first line: it has no line feed, or is another one
+abbrev pub IsTitleFaulty : LineFault → List ℕ → Type 0
+IsTitleFaulty why whole =
+    ((why ≡ Form) × (whole ≡ title))
+    ⊎ ((why ≡ Header) × (whole ≢ title) × ((rest : List ℕ) → whole ≢ header ++ rest))
+
 -- what is wrong with the first faulty line of a text
 abbrev pub FirstFault : List ℕ → StoreError → Type 0
-FirstFault whole error =
-    ((error ≡ BadLine 1 Header) × ((rest : List ℕ) → whole ≢ header ++ rest)) ⊎ FaultBehind whole error
+FirstFault whole error = ((why : LineFault) × (error ≡ BadLine 1 why) × IsTitleFaulty why whole) ⊎ FaultBehind whole error

@@ -33,9 +33,13 @@ entry_text entry = line_of entry.name entry.realm (kind_name (algorithm_of entry
 abbrev pub entry_line : Entry → List ℕ
 entry_line entry = entry_text entry ++ 10 ∷ []
 
+-- the first line, without its line feed
+abbrev pub title : List ℕ
+title = codes "authstore 1"
+
 -- the first line
 unfoldable pub header : List ℕ
-header = codes "authstore 1" ++ 10 ∷ []
+header = title ++ 10 ∷ []
 
 -- the text of a store
 abbrev pub store_text : List Entry → List ℕ

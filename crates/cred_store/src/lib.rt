@@ -8,11 +8,13 @@ mod error;
 mod htdigest;
 mod kind;
 mod line;
+mod round_trip;
 mod store;
 mod text;
 
 pub use entry::{Entry, Secret};
 pub use error::{LineFault, StoreError};
+pub use round_trip::reads_what_is_written;
 pub use store::Store;
 
 #[cfg(test)]

@@ -15,10 +15,10 @@ ghost use Rattle.cred_store.specs.declared.error.StoreError.TheVariants.{OutOfMe
 use crate::changes::{copy_of, put, put_all, take_out};
 use crate::entries::{name_of_hash, secret_of};
 use crate::entry::{Entry, Secret};
-use crate::error::{LineFault, StoreError};
+use crate::error::StoreError;
 use crate::htdigest::read_pairs;
-use crate::text::{HEADER, read_entries, write_entries};
-use auth_grammar::{Octets, OutOfMemory, behind, is_plain_name};
+use crate::text::{behind_header, read_entries, write_entries};
+use auth_grammar::{Octets, OutOfMemory, is_plain_name};
 use auth_hash::{Algorithm, HexText};
 use std::alloc::Global;
 use std::marker::Model;
@@ -59,9 +59,9 @@ impl Store {
         ensures fault { IfErr result (FirstFault text.now) }
         ensures refused { IfErr result (λ error. error ≢ NoMemory → (entries : List EntryValue) → IsStore entries → text.now ≢ store_text entries) }
     {
-        let Some(rest) = behind(text, HEADER) else {
-            let why = LineFault::Header;
-            return Err(StoreError::BadLine { line: 1, why });
+        let rest = match behind_header(text) {
+            Ok(rest) => rest,
+            Err(why) => return Err(StoreError::BadLine { line: 1, why }),
         };
         let entries = read_entries(alloc, rest)?;
         Ok(Store { entries })

@@ -1,7 +1,7 @@
 //! Reading and writing the text of a store.
 ghost use Rattle.std.specs.Prelude.{◌≡◌, ◌≢◌, ◌+◌, ◌<◌, ◌^◌, ◌++◌, ◌∷◌, [], ℕ, List, IfErr, IfOk, OnOk, length};
 ghost use Rattle.std.specs.List.{flat_map};
-ghost use Rattle.cred_store.specs.Faults.{BeginsFaulty, FaultAfter, FaultBehind};
+ghost use Rattle.cred_store.specs.Faults.{BeginsFaulty, FaultAfter, FaultBehind, IsTitleFaulty};
 ghost use Rattle.cred_store.specs.Keys.{IsRising};
 ghost use Rattle.cred_store.specs.Texts.{IsEntry, IsStore, entry_at, entry_line, header, store_text};
 
@@ -9,12 +9,29 @@ use crate::entry::{Entry, compare};
 use crate::error::{LineFault, StoreError};
 use crate::kind::kind_name;
 use crate::line::{Line, read_line};
-use auth_grammar::{Octets, OutOfMemory, Sequence, cut_at};
+use auth_grammar::{Octets, OutOfMemory, Sequence, behind, cut_at};
 use std::alloc::Global;
 use std::cmp::Ordering;
 
+/// The first line, without its line feed.
+const TITLE: &[u8] = b"authstore 1";
+
 /// The first line, with its line feed.
-pub(crate) const HEADER: &[u8] = b"authstore 1\n";
+const HEADER: &[u8] = b"authstore 1\n";
+
+/// What stands behind the first line, or what is wrong with that line.
+pub(crate) fn behind_header(text: &[u8]) -> Result<&[u8], LineFault>
+    ensures ok { IfOk result (λ rest. text.now ≡ header ++ rest.now) }
+    ensures err { IfErr result (λ why. IsTitleFaulty why text.now) }
+{
+    if text == TITLE {
+        return Err(LineFault::Form);
+    }
+    let Some(rest) = behind(text, HEADER) else {
+        return Err(LineFault::Header);
+    };
+    Ok(rest)
+}
 
 /// Reads the entries of a text, which stands behind the first line.
 pub(crate) fn read_entries(alloc: Global, text: &[u8]) -> Result<Vec<Entry>, StoreError>
