@@ -61,10 +61,11 @@ all_last P (x ∷ xs) e h = all_last P xs e h.1
 pub rising_push : (front : List Entry) (last e : Entry) → IsRising (front ++ last ∷ []) → entry_cmp last e ≡ Less → IsRising ((front ++ last ∷ []) ++ e ∷ [])
 unfolding IsStrictlySortedBy
 rising_push [] last e h below = ((below, tt), (tt, tt))
-rising_push (x ∷ front) last e h below =
-    (all_push (λ y. entry_cmp x y ≡ Less) (front ++ last ∷ []) e h.0
+rising_push (x ∷ front) last e h below = (
+  all_push (λ y. entry_cmp x y ≡ Less) (front ++ last ∷ []) e h.0
       (entries_total.trans x last e (all_last (λ y. entry_cmp x y ≡ Less) front last h.0) below),
-     rising_push front last e h.1 below)
+  rising_push front last e h.1 below,
+)
 
 pub rising_one : (e : Entry) → IsRising (e ∷ [])
 unfolding IsStrictlySortedBy

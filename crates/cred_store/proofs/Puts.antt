@@ -31,7 +31,7 @@ module _ (e : Entry) where
   put_free (x ∷ xs) (suc at) le parted =
       at_order x xs Less (parted.0 0 x (omega arith) (omega arith))
       ∙ ap (λ (l : List Entry). x ∷ l) (put_free xs at (omega arith)
-        (λ k d low high. parted.0 (suc k) d (omega arith) (omega arith), λ k d low high. parted.1 (suc k) d (omega arith) (omega arith)))
+      (λ k d low high. parted.0 (suc k) d (omega arith) (omega arith), λ k d low high. parted.1 (suc k) d (omega arith) (omega arith)))
 
   pub put_there : (xs : List Entry) (at : ℕ) → at < length xs → IsRising xs → HoldsAt (λ y. entry_cmp y e ≡ Equal) xs at → put e xs ≡ set xs at e
   unfolding IsStrictlySortedBy
@@ -84,8 +84,8 @@ module _ (e : Entry) where
       by Less is more = (all_put (λ y. entry_cmp x y ≡ Less) xs is up.0, more)
       by Equal is more = (all_below x xs (λ y h. sym (entries_total.congr x e y is) ∙ h) up.0, up.1)
       by Greater is more =
-        let below : entry_cmp e x ≡ Less = entries_total.antisymm e x ∙ ap ordering_reverse is in
-        ((below, all_below x xs (λ y h. entries_total.trans e x y below h) up.0), up)
+          let below : entry_cmp e x ≡ Less = entries_total.antisymm e x ∙ ap ordering_reverse is in
+          ((below, all_below x xs (λ y h. entries_total.trans e x y below h) up.0), up)
 
 -- ---- many entries
 

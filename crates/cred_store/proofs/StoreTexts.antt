@@ -35,7 +35,7 @@ begins_with (x ∷ es) rest (y ∷ fs) h g e =
     let is_x = All-head IsEntry x es h in
     let is_y = All-head IsEntry y fs g in
     let cut = cut_once 10 (entry_text x) (flat_map entry_line es ++ rest) (entry_text y) (flat_map entry_line fs) (no_feed x is_x) (no_feed y is_y)
-        (sym (line_again x (flat_map entry_line es ++ rest)) ∙ sym (append_assoc (entry_line x) (flat_map entry_line es) rest) ∙ e ∙ line_again y (flat_map entry_line fs)) in
+    (sym (line_again x (flat_map entry_line es ++ rest)) ∙ sym (append_assoc (entry_line x) (flat_map entry_line es) rest) ∙ e ∙ line_again y (flat_map entry_line fs)) in
     let more = begins_with es rest fs (All-tail IsEntry x es h) (All-tail IsEntry y fs g) cut.1 in
     (more.0, ap (λ (l : List Entry). y ∷ l) more.1 ∙ ap (λ (v : Entry). v ∷ (es ++ more.0)) (sym (one_entry x y is_x is_y cut.0)), more.2, more.3)
 
@@ -56,8 +56,10 @@ sound_parts why line e h is f =
   where
     theirs : HasParts line e.name e.realm (kind_name (algorithm_of e.secret)) (text_of e.secret)
     theirs = entry_parts line e h is
+
     are : (f.name ≡ e.name) × (f.realm ≡ e.realm) × (f.kind ≡ kind_name (algorithm_of e.secret)) × (f.value ≡ text_of e.secret)
     are = parts_are line _ _ _ _ _ _ _ _ f.parts theirs
+
     by : (why : LineFault) → ArePartsFaulty why f.name f.realm f.kind f.value → ⊥
     by Form x = x
     by Header x = x
@@ -88,7 +90,7 @@ sound_order before rest order fs tail up h whole is next other =
     let first = first_is rest (entry_text next.next) next.more tail h is (next.begins ∙ line_again next.next next.more) (no_feed next.next next.is_entry) in
     let same = one_entry next.next first.0 next.is_entry first.3 first.4 in
     let split : fs ≡ (next.front ++ next.last ∷ []) ++ first.0 ∷ first.1 =
-        whole ∙ ap (λ (l : List Entry). l ++ tail) next.ends ∙ ap (λ (l : List Entry). (next.front ++ next.last ∷ []) ++ l) first.2 in
+    whole ∙ ap (λ (l : List Entry). l ++ tail) next.ends ∙ ap (λ (l : List Entry). (next.front ++ next.last ∷ []) ++ l) first.2 in
     let below = rising_between next.front next.last first.0 first.1 (subst IsRising split up) in
     other (sym next.stands ∙ ap (entry_cmp next.last) same ∙ below)
 
@@ -119,7 +121,7 @@ pub sound : (whole : List ℕ) (error : StoreError) → FirstFault whole error �
 sound whole error (inl first) some fs h is = sound_title first.0 whole fs first.2 is
 sound whole error (inr f) some fs h is =
     let cut = begins_with f.before f.rest fs f.is_store.each h.each
-        (append_cancel_left header _ _ (sym (append_assoc header (flat_map entry_line f.before) f.rest) ∙ sym f.begins ∙ is)) in
+    (append_cancel_left header _ _ (sym (append_assoc header (flat_map entry_line f.before) f.rest) ∙ sym f.begins ∙ is)) in
     sound_after error f.before f.rest (length f.before + 2) fs cut.0 h.rising cut.3 cut.1 cut.2 some f.fault
 
 -- two stores of one text are one

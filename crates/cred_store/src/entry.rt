@@ -78,11 +78,7 @@ pub(crate) fn compare(entry: &Entry, name: &[u8], realm: &[u8], alg: Algorithm) 
 {
     let by_kind = kind_name(entry.secret.algorithm()).cmp(kind_name(alg));
     let by_realm = entry.realm.bytes().cmp(realm);
-    entry
-        .name
-        .bytes()
-        .cmp(name)
-        .then(by_realm.then(by_kind))
+    entry.name.bytes().cmp(name).then(by_realm.then(by_kind))
 }
 
 /// Whether the entry is of this name and realm.

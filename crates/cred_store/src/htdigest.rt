@@ -126,10 +126,11 @@ fn md5_secret(alloc: Global, value: &[u8]) -> Result<Option<Secret>, OutOfMemory
 fn lower_of(alloc: Global, text: &[u8]) -> Result<Vec<u8>, OutOfMemory>
     ensures { IfOk result (λ lower. lower.items ≡ str_to_ascii_lowercase text.now) }
 {
-    Ok(text
-        .iter()
-        .map(|byte| byte.to_ascii_lowercase())
-        .collect(alloc)?)
+    Ok(
+        text.iter()
+            .map(|byte| byte.to_ascii_lowercase())
+            .collect(alloc)?,
+    )
 }
 
 /// The first line of a text, without the line feed at its end and a carriage return before that,

@@ -8,7 +8,7 @@ pub loop-entry-preserved : goal.loop-entry-preserved
 loop-entry-preserved c = rw c.in_ok-put.ensures.ok (record {
   rising = rising_put c.in-Some.entry c.loop-entry.entries.items c.loop-entry.invariant.rising;
   same =
-    sym (put_all_more c.pop.new.self.items c.in-Some.entry c.loop-entry.entries.items)
-    ∙ ap (λ (l : List Entry). put_all l c.loop-entry.entries.items) (sym c.in-Some.ensures.items)
-    ∙ c.loop-entry.invariant.same;
+      sym (put_all_more c.pop.new.self.items c.in-Some.entry c.loop-entry.entries.items)
+      ∙ ap (λ (l : List Entry). put_all l c.loop-entry.entries.items) (sym c.in-Some.ensures.items)
+      ∙ c.loop-entry.invariant.same;
 })

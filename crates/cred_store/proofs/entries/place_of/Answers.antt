@@ -9,10 +9,10 @@ pub returns-clause-found : goal.returns-clause-found
 returns-clause-found c =
     let k = key_at c.args.name.now c.args.realm.now c.args.alg in
     (searched k c.args.entries.now c.requires _ c.binary_search_by.ensures.bound
-      (c.binary_search_by.ensures.position (λ e. key_cmp (key_of e) k) (always_returns_same _ _ _ (λ a r g called. search rules)))).0
+    (c.binary_search_by.ensures.position (λ e. key_cmp (key_of e) k) (always_returns_same _ _ _ (λ a r g called. search rules)))).0
 
 pub returns-clause-free : goal.returns-clause-free
 returns-clause-free c =
     let k = key_at c.args.name.now c.args.realm.now c.args.alg in
     (searched k c.args.entries.now c.requires _ c.binary_search_by.ensures.bound
-      (c.binary_search_by.ensures.position (λ e. key_cmp (key_of e) k) (always_returns_same _ _ _ (λ a r g called. search rules)))).1
+    (c.binary_search_by.ensures.position (λ e. key_cmp (key_of e) k) (always_returns_same _ _ _ (λ a r g called. search rules)))).1

@@ -15,12 +15,12 @@ returns-in-Ok c =
     let there = find_there k c.args.entries.now c.in-Ok.at e c.requires c.in-Ok.ensures.found_bound (c.in-Ok.ensures.found e) in
     ap Some c.text.ensures
     ∙ sym (ap (option_map (λ (e : Entry). text_of e.secret))
-      (find_alike (is_keyed c.args.name.now c.args.realm.now c.args.alg) (has_key k) (keyed c.args.name.now c.args.realm.now c.args.alg) c.args.entries.now
-       ∙ there))
+    (find_alike (is_keyed c.args.name.now c.args.realm.now c.args.alg) (has_key k) (keyed c.args.name.now c.args.realm.now c.args.alg) c.args.entries.now
+    ∙ there))
 
 pub returns-in-Err : goal.returns-in-Err
 returns-in-Err c =
     let k = key_at c.args.name.now c.args.realm.now c.args.alg in
     sym (ap (option_map (λ (e : Entry). text_of e.secret))
-      (find_alike (is_keyed c.args.name.now c.args.realm.now c.args.alg) (has_key k) (keyed c.args.name.now c.args.realm.now c.args.alg) c.args.entries.now
-       ∙ find_free k c.args.entries.now _ c.in-Err.ensures.free))
+    (find_alike (is_keyed c.args.name.now c.args.realm.now c.args.alg) (has_key k) (keyed c.args.name.now c.args.realm.now c.args.alg) c.args.entries.now
+    ∙ find_free k c.args.entries.now _ c.in-Err.ensures.free))

@@ -18,5 +18,5 @@ returns-in-Less-clause-rising c up =
     let next = entry_at c.args.line.now.name.now c.args.line.now.realm.now c.args.line.now.secret in
     let split = last_is c.args.entries.now c.in-Some.last.now (sym c.in-Some.ensures.value) in
     subst IsRising (ap (λ (l : List Entry). l ++ next ∷ []) (sym split.1))
-    (rising_push split.0 c.in-Some.last.now next (subst IsRising split.1 up) 
-      (ap (λ (a : Algorithm). key_cmp (key_of c.in-Some.last.now) (key_at c.args.line.now.name.now c.args.line.now.realm.now a)) (sym c.algorithm.ensures) ∙ sym c.in-Less.ensures))
+    (rising_push split.0 c.in-Some.last.now next (subst IsRising split.1 up)
+    (ap (λ (a : Algorithm). key_cmp (key_of c.in-Some.last.now) (key_at c.args.line.now.name.now c.args.line.now.realm.now a)) (sym c.algorithm.ensures) ∙ sym c.in-Less.ensures))

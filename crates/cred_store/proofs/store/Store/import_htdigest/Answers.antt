@@ -15,8 +15,14 @@ put_all-requires c = rw c.new-imported.ensures.items rising_none
 
 pub overflow_cast-count : goal.overflow_cast-count
 overflow_cast-count c =
-    omega (arith, ap length c.in_ok-put_all.ensures, length_put_all c.in_ok-pairs.pairs.items c.new-imported.result.items,
-      ap length c.new-imported.ensures.items, c.in_ok-pairs.ensures.few, c.requires)
+    omega (
+      arith,
+      ap length c.in_ok-put_all.ensures,
+      length_put_all c.in_ok-pairs.pairs.items c.new-imported.result.items,
+      ap length c.new-imported.ensures.items,
+      c.in_ok-pairs.ensures.few,
+      c.requires,
+    )
 
 pub invariant_of-self : goal.invariant_of-self
 invariant_of-self c =
@@ -24,8 +30,9 @@ invariant_of-self c =
     let kept : c.put_all.new.entries.items ≡ imported pairs = c.in_ok-put_all.ensures ∙ ap (put_all pairs) c.new-imported.ensures.items in
     let copied : c.in_ok-entries.entries.items ≡ c.self.inside.entries.items = c.in_ok-entries.ensures ∙ c.as_slice.ensures.value in
     let after : c.put_all-2.new.entries.items ≡ put_all (imported pairs) c.self.inside.entries.items =
-        c.in_ok-put_all-2.ensures ∙ ap (λ (l : List Entry). put_all l c.in_ok-entries.entries.items) kept ∙ ap (put_all (imported pairs)) copied in
-    rw after
-    (put_all_store (imported pairs) c.self.inside.entries.items
-      (each_put_all pairs [] (pairs_entries (lines c.args.text.now) pairs c.in_ok-pairs.ensures.pairs) (All-nil IsEntry)) c.self.invariant.0,
-     omega (arith, length_put_all (imported pairs) c.self.inside.entries.items, length_put_all pairs [], c.in_ok-pairs.ensures.few, c.requires, ap length c.self.view_is))
+    c.in_ok-put_all-2.ensures ∙ ap (λ (l : List Entry). put_all l c.in_ok-entries.entries.items) kept ∙ ap (put_all (imported pairs)) copied in
+    rw after (
+      put_all_store (imported pairs) c.self.inside.entries.items
+          (each_put_all pairs [] (pairs_entries (lines c.args.text.now) pairs c.in_ok-pairs.ensures.pairs) (All-nil IsEntry)) c.self.invariant.0,
+      omega (arith, length_put_all (imported pairs) c.self.inside.entries.items, length_put_all pairs [], c.in_ok-pairs.ensures.few, c.requires, ap length c.self.view_is),
+    )

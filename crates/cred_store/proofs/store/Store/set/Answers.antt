@@ -13,6 +13,7 @@ invariant_of-self-2 c =
       realm = both_second (is_plain_name c.args.name.now) _ plain;
       secret = c.requires.form;
     }) in
-    rw c.in_ok-put.ensures.ok
-    (put_store c.in_ok-entry.entry c.self.inside.entries.items is_entry c.self.invariant.0,
-     omega (arith, length_put c.in_ok-entry.entry c.self.inside.entries.items, ap length c.self.view_is, c.requires.room))
+    rw c.in_ok-put.ensures.ok (
+      put_store c.in_ok-entry.entry c.self.inside.entries.items is_entry c.self.invariant.0,
+      omega (arith, length_put c.in_ok-entry.entry c.self.inside.entries.items, ap length c.self.view_is, c.requires.room),
+    )
