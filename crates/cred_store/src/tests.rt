@@ -199,49 +199,57 @@ fn lines_out_of_order_are_named(rt: HostRuntime) -> Result<(), Fail> {
     Ok(())
 }
 
+/// Sets the secret `MUFASA` in a store that has room for it.
+fn set_mufasa(
+    rt: &impl Abort,
+    alloc: Global,
+    store: &mut Store,
+    name: &[u8],
+    realm: &[u8],
+) -> Result<(), StoreError> {
+    let ha1 = HexText::read(MUFASA).expect(rt, "a digest");
+    assert!(rt; ha1.bytes().len() == 32 && store.entries() < 10);
+    let alg = Algorithm::Md5;
+    store.set(alloc, name, realm, &Secret::Digest { alg, ha1 })
+}
+
 #[test]
 fn a_secret_is_set_and_removed(rt: HostRuntime) -> Result<(), Fail> {
     let mut store = Store::read(rt.alloc(), several())?;
-    let ha1 = HexText::read(MUFASA).ok_or("no digest")?;
-    assert!(rt; ha1.bytes().len() == 32);
-    let secret = Secret::Digest {
-        alg: Algorithm::Md5,
-        ha1,
-    };
-    assert_eq!(rt;
-        store.set(rt.alloc(), b"a:b", b"r", &secret),
-        Err(StoreError::BadName)
-    );
-    assert_eq!(rt;
-        store.set(rt.alloc(), b"a", b"", &secret),
-        Err(StoreError::BadName)
-    );
+    for (name, realm) in [(b"a:b".as_slice(), b"r".as_slice()), (b"a", b"")] {
+        let refused = set_mufasa(&rt, rt.alloc(), &mut store, name, realm);
+        assert_eq!(rt; refused, Err(StoreError::BadName));
+    }
     assert!(rt; store.write(rt.alloc())?.bytes() == several());
-    store.set(rt.alloc(), b"Mufasa", REALM, &secret)?;
+    set_mufasa(&rt, rt.alloc(), &mut store, b"Mufasa", REALM)?;
     assert_eq!(rt; store.entries(), 4);
-    assert!(rt; store.entries() < 10);
-    store.set(rt.alloc(), b"Lion", b"r", &secret)?;
+    set_mufasa(&rt, rt.alloc(), &mut store, b"Lion", b"r")?;
     assert_eq!(rt; store.entries(), 5);
     assert!(rt; has_md5(&store, b"Lion", MUFASA));
     assert!(rt; store.remove(b"Mufasa", REALM));
     assert_eq!(rt; store.entries(), 3);
     assert!(rt; !store.remove(b"Mufasa", REALM));
-    assert!(rt;
-        store
-            .secret(b"Mufasa", b"testrealm@host.com", Algorithm::Md5)
-            .is_some()
-    );
+    let kept = store.secret(b"Mufasa", b"testrealm@host.com", Algorithm::Md5);
+    assert!(rt; kept.is_some());
     Ok(())
+}
+
+/// Imports a short text into a store that has room for it.
+fn import(
+    rt: &impl Abort,
+    alloc: Global,
+    store: &mut Store,
+    text: &[u8],
+) -> Result<u32, StoreError> {
+    assert!(rt; store.entries() < 10 && text.len() < 1000);
+    store.import_htdigest(alloc, text)
 }
 
 #[test]
 fn a_text_of_htdigest_is_imported(rt: HostRuntime) -> Result<(), Fail> {
     let mut store = Store::new(rt.alloc());
-    let count = store.import_htdigest(
-        rt.alloc(),
-        b"Mufasa:testrealm@host.com:939e7578ed9e3c518a452acee763bce9",
-    )?;
-    assert_eq!(rt; count, 1);
+    let text = b"Mufasa:testrealm@host.com:939e7578ed9e3c518a452acee763bce9";
+    assert_eq!(rt; import(&rt, rt.alloc(), &mut store, text)?, 1);
     assert!(rt; store.write(rt.alloc())?.bytes() == one());
     Ok(())
 }
@@ -261,8 +269,7 @@ fn of_two_lines_the_first_counts(rt: HostRuntime) -> Result<(), Fail> {
         rt.alloc(),
         b"authstore 1\na:r:md5:11111111111111111111111111111111\nc:r:md5:22222222222222222222222222222222\n",
     )?;
-    assert_eq!(rt; store.entries(), 2);
-    assert_eq!(rt; store.import_htdigest(rt.alloc(), htdigest())?, 3);
+    assert_eq!(rt; import(&rt, rt.alloc(), &mut store, htdigest())?, 3);
     assert_eq!(rt; store.entries(), 4);
     assert!(rt; has_md5(&store, b"a", ZEROS));
     assert!(rt; has_md5(&store, b"b", MUFASA));
@@ -298,7 +305,7 @@ fn a_faulty_import_changes_nothing(rt: HostRuntime) -> Result<(), Fail> {
             LineFault::Value,
         ),
     ] {
-        let refused = store.import_htdigest(rt.alloc(), text);
+        let refused = import(&rt, rt.alloc(), &mut store, text);
         assert_eq!(rt; refused, Err(StoreError::BadLine { line, why }));
     }
     assert_eq!(rt; store.entries(), 0);
