@@ -24,29 +24,63 @@ use Rattle.cred_store.proofs.Parts.{cut_once, entry_parts, has_it, no_feed, not_
 pub line_again : (e : Entry) (rest : List ℕ) → entry_line e ++ rest ≡ entry_text e ++ 10 ∷ rest
 line_again e rest = append_assoc (entry_text e) (10 ∷ []) rest
 
--- ---- the entries of a text begin with those of its front
+pub some_line : (e : Entry) (rest : List ℕ) → entry_line e ++ rest ≢ []
+some_line e rest is = not_empty 10 (entry_text e) rest (sym (line_again e rest) ∙ is)
 
-pub begins_with : (es : List Entry) (rest : List ℕ) (fs : List Entry) → All IsEntry es → All IsEntry fs → flat_map entry_line es ++ rest ≡ flat_map entry_line fs →
-    (tail : List Entry) × (fs ≡ es ++ tail) × (rest ≡ flat_map entry_line tail) × All IsEntry tail
-begins_with [] rest fs h g e = (fs, refl, e, g)
-begins_with (x ∷ es) rest [] h g e =
-    absurd (not_empty 10 (entry_text x) (flat_map entry_line es ++ rest) (sym (line_again x (flat_map entry_line es ++ rest)) ∙ sym (append_assoc (entry_line x) (flat_map entry_line es) rest) ∙ e))
-begins_with (x ∷ es) rest (y ∷ fs) h g e =
+-- ---- the entries of two texts that are one
+
+-- one list of entries goes on where the other ends, and there the text begins with the next entry's line
+pub record GoesOn (es fs : List Entry) (rest : List ℕ) : Type 0 where
+  pub next : Entry
+  pub tail : List Entry
+  pub more : List ℕ
+  pub is_entry : IsEntry next
+  pub splits : fs ≡ es ++ next ∷ tail
+  pub begins : rest ≡ entry_line next ++ more
+
+goes_on_more : (x y : Entry) (es fs : List Entry) (rest : List ℕ) → x ≡ y → GoesOn es fs rest → GoesOn (x ∷ es) (y ∷ fs) rest
+goes_on_more x y es fs rest same h = record {
+  next = h.next;
+  tail = h.tail;
+  more = h.more;
+  is_entry = h.is_entry;
+  splits = ap (λ (l : List Entry). y ∷ l) h.splits ∙ ap (λ (v : Entry). v ∷ (es ++ h.next ∷ h.tail)) (sym same);
+  begins = h.begins;
+}
+
+abbrev pub Overlap : (es fs : List Entry) (r q : List ℕ) → Type 0
+Overlap es fs r q = ((es ≡ fs) × (r ≡ q)) ⊎ (GoesOn es fs r ⊎ GoesOn fs es q)
+
+overlap_more : (x y : Entry) (es fs : List Entry) (r q : List ℕ) → x ≡ y → Overlap es fs r q → Overlap (x ∷ es) (y ∷ fs) r q
+overlap_more x y es fs r q same (inl h) = inl (ap (λ (l : List Entry). x ∷ l) h.0 ∙ ap (λ (v : Entry). v ∷ fs) same, h.1)
+overlap_more x y es fs r q same (inr (inl h)) = inr (inl (goes_on_more x y es fs r same h))
+overlap_more x y es fs r q same (inr (inr h)) = inr (inr (goes_on_more y x fs es q (sym same) h))
+
+pub overlap : (es fs : List Entry) (r q : List ℕ) → All IsEntry es → All IsEntry fs → flat_map entry_line es ++ r ≡ flat_map entry_line fs ++ q → Overlap es fs r q
+overlap [] [] r q h g e = inl (refl, e)
+overlap [] (y ∷ fs) r q h g e = inr (inl (record {
+  next = y;
+  tail = fs;
+  more = flat_map entry_line fs ++ q;
+  is_entry = All-head IsEntry y fs g;
+  splits = refl;
+  begins = e ∙ append_assoc (entry_line y) (flat_map entry_line fs) q;
+}))
+overlap (x ∷ es) [] r q h g e = inr (inr (record {
+  next = x;
+  tail = es;
+  more = flat_map entry_line es ++ r;
+  is_entry = All-head IsEntry x es h;
+  splits = refl;
+  begins = sym e ∙ append_assoc (entry_line x) (flat_map entry_line es) r;
+}))
+overlap (x ∷ es) (y ∷ fs) r q h g e =
     let is_x = All-head IsEntry x es h in
     let is_y = All-head IsEntry y fs g in
-    let cut = cut_once 10 (entry_text x) (flat_map entry_line es ++ rest) (entry_text y) (flat_map entry_line fs) (no_feed x is_x) (no_feed y is_y)
-    (sym (line_again x (flat_map entry_line es ++ rest)) ∙ sym (append_assoc (entry_line x) (flat_map entry_line es) rest) ∙ e ∙ line_again y (flat_map entry_line fs)) in
-    let more = begins_with es rest fs (All-tail IsEntry x es h) (All-tail IsEntry y fs g) cut.1 in
-    (more.0, ap (λ (l : List Entry). y ∷ l) more.1 ∙ ap (λ (v : Entry). v ∷ (es ++ more.0)) (sym (one_entry x y is_x is_y cut.0)), more.2, more.3)
-
--- what the rest of a store's text begins with
-pub first_is : (rest line more : List ℕ) (tail : List Entry) → All IsEntry tail → rest ≡ flat_map entry_line tail → rest ≡ line ++ 10 ∷ more → HasNo 10 line →
-    (e : Entry) × (later : List Entry) × (tail ≡ e ∷ later) × IsEntry e × (line ≡ entry_text e)
-first_is rest line more [] h is begins none = absurd (not_empty 10 line more (sym begins ∙ is))
-first_is rest line more (e ∷ later) h is begins none =
-    let is_e = All-head IsEntry e later h in
-    let cut = cut_once 10 line more (entry_text e) (flat_map entry_line later) none (no_feed e is_e) (sym begins ∙ is ∙ line_again e (flat_map entry_line later)) in
-    (e, later, refl, is_e, cut.0)
+    let cut = cut_once 10 (entry_text x) (flat_map entry_line es ++ r) (entry_text y) (flat_map entry_line fs ++ q) (no_feed x is_x) (no_feed y is_y)
+        (sym (append_assoc (entry_line x) (flat_map entry_line es) r ∙ line_again x (flat_map entry_line es ++ r)) ∙ e
+         ∙ append_assoc (entry_line y) (flat_map entry_line fs) q ∙ line_again y (flat_map entry_line fs ++ q)) in
+    overlap_more x y es fs r q (one_entry x y is_x is_y cut.0) (overlap es fs r q (All-tail IsEntry x es h) (All-tail IsEntry y fs g) cut.1)
 
 -- ---- a faulty line is no entry's
 
@@ -56,10 +90,8 @@ sound_parts why line e h is f =
   where
     theirs : HasParts line e.name e.realm (kind_name (algorithm_of e.secret)) (text_of e.secret)
     theirs = entry_parts line e h is
-
     are : (f.name ≡ e.name) × (f.realm ≡ e.realm) × (f.kind ≡ kind_name (algorithm_of e.secret)) × (f.value ≡ text_of e.secret)
     are = parts_are line _ _ _ _ _ _ _ _ f.parts theirs
-
     by : (why : LineFault) → ArePartsFaulty why f.name f.realm f.kind f.value → ⊥
     by Form x = x
     by Header x = x
@@ -72,26 +104,23 @@ sound_line : (why : LineFault) (line : List ℕ) (e : Entry) → IsEntry e → l
 sound_line why line e h is (inl form) = form.1 (three_of_parts line _ _ _ _ (entry_parts line e h is))
 sound_line why line e h is (inr parts) = sound_parts why line e h is parts
 
--- a store's text has no line feed only where it has no line
-no_line : (rest : List ℕ) (tail : List Entry) → rest ≡ flat_map entry_line tail → rest ≢ [] → HasNo 10 rest → ⊥
-no_line rest [] is some none = some is
-no_line rest (e ∷ tail) is some none =
-    true≢false (sym (has_it 10 (entry_text e) (flat_map entry_line tail)) ∙ ap (list_any (λ b. b == 10)) (sym (line_again e (flat_map entry_line tail)) ∙ sym is) ∙ none)
+pub has_feed : (text line rest : List ℕ) → text ≡ line ++ 10 ∷ rest → HasNo 10 text → ⊥
+has_feed text line rest is none = true≢false (sym (has_it 10 line rest) ∙ ap (list_any (λ b. b == 10)) (sym is) ∙ none)
 
-sound_first : (why : LineFault) (rest : List ℕ) (tail : List Entry) → All IsEntry tail → rest ≡ flat_map entry_line tail → BeginsFaulty why rest → ⊥
-sound_first why rest tail h is (inl form) = no_line rest tail is form.1 form.2
-sound_first why rest tail h is (inr line) =
-    let first = first_is rest line.0 line.1 tail h is line.2 line.3 in
-    sound_line why line.0 first.0 first.3 first.4 line.4
+-- a text that begins with an entry's line has no fault there
+pub clear_first : (why : LineFault) (rest : List ℕ) (e : Entry) (more : List ℕ) → IsEntry e → rest ≡ entry_line e ++ more → BeginsFaulty why rest → ⊥
+clear_first why rest e more h is (inl form) = has_feed rest (entry_text e) more (is ∙ line_again e more) form.2
+clear_first why rest e more h is (inr line) =
+    let cut = cut_once 10 line.0 line.1 (entry_text e) more line.3 (no_feed e h) (sym line.2 ∙ is ∙ line_again e more) in
+    sound_line why line.0 e h cut.0 line.4
 
-sound_order : (before : List Entry) (rest : List ℕ) (order : Ordering) (fs tail : List Entry) → IsRising fs → All IsEntry tail → fs ≡ before ++ tail → rest ≡ flat_map entry_line tail →
-    NextStands before rest order → order ≢ Less → ⊥
-sound_order before rest order fs tail up h whole is next other =
-    let first = first_is rest (entry_text next.next) next.more tail h is (next.begins ∙ line_again next.next next.more) (no_feed next.next next.is_entry) in
-    let same = one_entry next.next first.0 next.is_entry first.3 first.4 in
-    let split : fs ≡ (next.front ++ next.last ∷ []) ++ first.0 ∷ first.1 =
-    whole ∙ ap (λ (l : List Entry). l ++ tail) next.ends ∙ ap (λ (l : List Entry). (next.front ++ next.last ∷ []) ++ l) first.2 in
-    let below = rising_between next.front next.last first.0 first.1 (subst IsRising split up) in
+clear_order : (before : List Entry) (rest : List ℕ) (order : Ordering) (fs : List Entry) → IsRising fs → GoesOn before fs rest → NextStands before rest order → order ≢ Less → ⊥
+clear_order before rest order fs up g next other =
+    let cut = cut_once 10 (entry_text next.next) next.more (entry_text g.next) g.more (no_feed next.next next.is_entry) (no_feed g.next g.is_entry)
+        (sym (next.begins ∙ line_again next.next next.more) ∙ g.begins ∙ line_again g.next g.more) in
+    let same = one_entry next.next g.next next.is_entry g.is_entry cut.0 in
+    let split : fs ≡ (next.front ++ next.last ∷ []) ++ g.next ∷ g.tail = g.splits ∙ ap (λ (l : List Entry). l ++ g.next ∷ g.tail) next.ends in
+    let below = rising_between next.front next.last g.next g.tail (subst IsRising split up) in
     other (sym next.stands ∙ ap (entry_cmp next.last) same ∙ below)
 
 equal_not_less : Equal ≢ Less
@@ -100,40 +129,59 @@ equal_not_less e = cc
 greater_not_less : Greater ≢ Less
 greater_not_less e = cc
 
-sound_after : (error : StoreError) (before : List Entry) (rest : List ℕ) (n : ℕ) (fs tail : List Entry) → IsRising fs → All IsEntry tail → fs ≡ before ++ tail → rest ≡ flat_map entry_line tail →
-    error ≢ OutOfMemory → FaultAfter before rest n error → ⊥
-sound_after (BadLine line why) before rest n fs tail up h whole is some f = sound_first why rest tail h is f.1
-sound_after (Repeated line) before rest n fs tail up h whole is some f = sound_order before rest Equal fs tail up h whole is f.1 equal_not_less
-sound_after (Unsorted line) before rest n fs tail up h whole is some f = sound_order before rest Greater fs tail up h whole is f.1 greater_not_less
-sound_after BadName before rest n fs tail up h whole is some f = f
-sound_after OutOfMemory before rest n fs tail up h whole is some f = some refl
+-- where a store's entries go on there is no fault
+pub clear_after : (error : StoreError) (before : List Entry) (rest : List ℕ) (n : ℕ) (fs : List Entry) → IsRising fs → GoesOn before fs rest → error ≢ OutOfMemory → FaultAfter before rest n error → ⊥
+clear_after (BadLine line why) before rest n fs up g some f = clear_first why rest g.next g.more g.is_entry g.begins f.1
+clear_after (Repeated line) before rest n fs up g some f = clear_order before rest Equal fs up g f.1 equal_not_less
+clear_after (Unsorted line) before rest n fs up g some f = clear_order before rest Greater fs up g f.1 greater_not_less
+clear_after BadName before rest n fs up g some f = f
+clear_after OutOfMemory before rest n fs up g some f = some refl
 
-title_alone : (fs : List Entry) → title ≢ store_text fs
+-- nor is there at the end
+empty_first : (why : LineFault) (rest : List ℕ) → rest ≡ [] → BeginsFaulty why rest → ⊥
+empty_first why rest is (inl form) = form.1 is
+empty_first why rest is (inr line) = not_empty 10 line.0 line.1 (sym line.2 ∙ is)
+
+empty_after : (error : StoreError) (before : List Entry) (rest : List ℕ) (n : ℕ) → rest ≡ [] → error ≢ OutOfMemory → FaultAfter before rest n error → ⊥
+empty_after (BadLine line why) before rest n is some f = empty_first why rest is f.1
+empty_after (Repeated line) before rest n is some f = some_line f.1.next f.1.more (sym f.1.begins ∙ is)
+empty_after (Unsorted line) before rest n is some f = some_line f.1.next f.1.more (sym f.1.begins ∙ is)
+empty_after BadName before rest n is some f = f
+empty_after OutOfMemory before rest n is some f = some refl
+
+pub title_alone : (rest : List ℕ) → title ≢ header ++ rest
 unfolding header
-title_alone fs e = cc
+title_alone rest e = cc
 
 sound_title : (why : LineFault) (whole : List ℕ) (fs : List Entry) → IsTitleFaulty why whole → whole ≢ store_text fs
-sound_title why whole fs (inl form) is = title_alone fs (sym form.1 ∙ is)
+sound_title why whole fs (inl form) is = title_alone (flat_map entry_line fs) (sym form.1 ∙ is)
 sound_title why whole fs (inr other) is = other.2 (flat_map entry_line fs) is
+
+-- what stands behind the first line of two texts that are one
+pub behind_both : (es fs : List Entry) (r q : List ℕ) → store_text es ++ r ≡ store_text fs ++ q → flat_map entry_line es ++ r ≡ flat_map entry_line fs ++ q
+behind_both es fs r q same =
+    append_cancel_left header _ _ (sym (append_assoc header (flat_map entry_line es) r) ∙ same ∙ append_assoc header (flat_map entry_line fs) q)
 
 -- a text with a faulty line is no store's
 pub sound : (whole : List ℕ) (error : StoreError) → FirstFault whole error → error ≢ OutOfMemory → (fs : List Entry) → IsStore fs → whole ≢ store_text fs
 sound whole error (inl first) some fs h is = sound_title first.0 whole fs first.2 is
 sound whole error (inr f) some fs h is =
-    let cut = begins_with f.before f.rest fs f.is_store.each h.each
-    (append_cancel_left header _ _ (sym (append_assoc header (flat_map entry_line f.before) f.rest) ∙ sym f.begins ∙ is)) in
-    sound_after error f.before f.rest (length f.before + 2) fs cut.0 h.rising cut.3 cut.1 cut.2 some f.fault
+    by (overlap f.before fs f.rest [] f.is_store.each h.each (behind_both f.before fs f.rest [] (sym f.begins ∙ is ∙ sym (append-nil (store_text fs)))))
+  where
+    by : Overlap f.before fs f.rest [] → ⊥
+    by (inl same) = empty_after error f.before f.rest (length f.before + 2) same.1 some f.fault
+    by (inr (inl g)) = clear_after error f.before f.rest (length f.before + 2) fs h.rising g some f.fault
+    by (inr (inr g)) = some_line g.next g.more (sym g.begins)
 
 -- two stores of one text are one
 pub one_store : (es fs : List Entry) → All IsEntry es → All IsEntry fs → store_text es ≡ store_text fs → es ≡ fs
 one_store es fs h g same =
-    let cut = begins_with es [] fs h g (append-nil (flat_map entry_line es) ∙ append_cancel_left header _ _ same) in
-    sym (cut.1 ∙ by cut.0 cut.2)
+    by (overlap es fs [] [] h g (behind_both es fs [] [] (append-nil (store_text es) ∙ same ∙ sym (append-nil (store_text fs)))))
   where
-    by : (tail : List Entry) → [] ≡ flat_map entry_line tail → es ++ tail ≡ es
-    by [] is = append-nil es
-    by (e ∷ tail) is = absurd (not_empty 10 (entry_text e) (flat_map entry_line tail) (sym (line_again e (flat_map entry_line tail)) ∙ sym is))
-
+    by : Overlap es fs [] [] → es ≡ fs
+    by (inl both) = both.0
+    by (inr (inl g)) = absurd (some_line g.next g.more (sym g.begins))
+    by (inr (inr g)) = absurd (some_line g.next g.more (sym g.begins))
 -- ---- reading line by line
 
 pub fault_behind : (text : List ℕ) (before : List Entry) (rest : List ℕ) (error : StoreError) → IsStore before → text ≡ flat_map entry_line before ++ rest →

@@ -7,6 +7,7 @@ mod entry;
 mod error;
 mod htdigest;
 mod kind;
+mod laws;
 mod line;
 mod round_trip;
 mod store;
@@ -14,6 +15,7 @@ mod text;
 
 pub use entry::{Entry, Secret};
 pub use error::{LineFault, StoreError};
+pub use laws::has_one_first_fault;
 pub use round_trip::reads_what_is_written;
 pub use store::Store;
 
