@@ -5,3 +5,4 @@ pub mod StoreTexts
 pub mod OneFault
 pub mod Puts
 pub mod Pairs
+pub mod Changed

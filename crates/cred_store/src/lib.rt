@@ -15,7 +15,7 @@ mod text;
 
 pub use entry::{Entry, Secret};
 pub use error::{LineFault, StoreError};
-pub use laws::has_one_first_fault;
+pub use laws::{changes_what_is_named, has_one_first_fault};
 pub use round_trip::reads_what_is_written;
 pub use store::Store;
 

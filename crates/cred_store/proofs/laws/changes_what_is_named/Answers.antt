@@ -1,0 +1,8 @@
+use Rattle.cred_store.proofs.Changed.{secret_put, secret_without}
+use Rattle.cred_store.proofs.laws.changes_what_is_named.Goals as goal
+
+pub returns-clause-put : goal.returns-clause-put
+returns-clause-put c = secret_put
+
+pub returns-clause-without : goal.returns-clause-without
+returns-clause-without c = secret_without
