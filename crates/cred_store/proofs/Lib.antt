@@ -6,3 +6,4 @@ pub mod OneFault
 pub mod Puts
 pub mod Pairs
 pub mod Changed
+pub mod OnePair

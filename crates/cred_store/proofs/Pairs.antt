@@ -30,7 +30,7 @@ line_ended text line rest is none =
     ap lines is ∙ ap lines_of_parts (slice_split_at (λ b. b == 10) line 10 rest (none_passes line none) refl)
     ∙ some_part line (slice_split (λ b. b == 10) rest) (omega (arith, length-slice_split (λ b. b == 10) rest))
 
-not_zero : (n : ℕ) → (suc n == 0) ≡ false
+pub not_zero : (n : ℕ) → (suc n == 0) ≡ false
 not_zero n = grind (arith, nat_tests)
 
 pub line_open : (text : List ℕ) → text ≢ [] → HasNo 10 text → lines text ≡ text ∷ lines []

@@ -145,11 +145,11 @@ passes_no test n fails (x ∷ a) e = neither (x == n) _ (by (x == n) refl) (pass
     by true is = absurd (true≢false (sym (both_first (test x) _ e) ∙ ap test (grind (arith, is)) ∙ fails))
     by false is = is
 
-digits_pass : (a : List ℕ) → All (λ x. is_lower_digit x ≡ true) a → list_all is_lower_digit a ≡ true
+pub digits_pass : (a : List ℕ) → All (λ x. is_lower_digit x ≡ true) a → list_all is_lower_digit a ≡ true
 digits_pass [] h = refl
 digits_pass (x ∷ a) h = ap (λ (v : Bool). v && list_all is_lower_digit a) (All-head (λ y. is_lower_digit y ≡ true) x a h) ∙ digits_pass a (All-tail (λ y. is_lower_digit y ≡ true) x a h)
 
-plain_bytes : (name : List ℕ) → is_plain_name name ≡ true → list_all is_plain_byte name ≡ true
+pub plain_bytes : (name : List ℕ) → is_plain_name name ≡ true → list_all is_plain_byte name ≡ true
 plain_bytes name e = both_second (nat_le 1 (length name) && nat_le (length name) 64) _ e
 
 kind_no_colon : (alg : Algorithm) → HasNo 58 (kind_name alg)

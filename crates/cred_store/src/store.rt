@@ -114,6 +114,7 @@ impl Store {
         requires { length self.old + length text.now < 2 ^ 32 }
         ensures ok { IfOk result (λ count. (pairs : List EntryValue) × ArePairs (lines text.now) pairs × (count ≡ length (imported pairs)) × (self.new ≡ put_all (imported pairs) self.old)) }
         ensures fault { IfErr result (FirstPairFault text.now) }
+        ensures refused { IfErr result (λ error. error ≢ NoMemory → (pairs : List EntryValue) → ArePairs (lines text.now) pairs → ⊥) }
         ensures err { OnErr result (self.new ≡ self.old) }
     {
         let pairs = read_pairs(alloc, text)?;

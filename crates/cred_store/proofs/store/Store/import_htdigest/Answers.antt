@@ -1,11 +1,13 @@
 use Rattle.std.proofs.Common.{arith, ap, length, sym, ◌∙◌, ◌≡◌, ◌≤◌, List, []}
 use Rattle.std.specs.Str.Lines.{lines}
 use Rattle.std.proofs.lemmas.List.Elements.{All-nil}
+use Rattle.std.proofs.lemmas.Result.{err_from_is_err_and}
 use Rattle.cred_store.specs.Changes.{put_all}
 use Rattle.cred_store.specs.Htdigest.{imported}
 use Rattle.cred_store.specs.Texts.{IsEntry}
 use Rattle.cred_store.specs.declared.entry.Entry.{Entry}
 use Rattle.cred_store.proofs.Order.{rising_none}
+use Rattle.cred_store.proofs.OnePair.{sound_pairs}
 use Rattle.cred_store.proofs.Pairs.{pairs_entries}
 use Rattle.cred_store.proofs.Puts.{each_put_all, length_put_all, put_all_store}
 use Rattle.cred_store.proofs.store.Store.import_htdigest.Goals as goal
@@ -36,3 +38,8 @@ invariant_of-self c =
           (each_put_all pairs [] (pairs_entries (lines c.args.text.now) pairs c.in_ok-pairs.ensures.pairs) (All-nil IsEntry)) c.self.invariant.0,
       omega (arith, length_put_all (imported pairs) c.self.inside.entries.items, length_put_all pairs [], c.in_ok-pairs.ensures.few, c.requires, ap length c.self.view_is),
     )
+
+pub returns-in_err-pairs-clause-refused : goal.returns-in_err-pairs-clause-refused
+returns-in_err-pairs-clause-refused c =
+    let p = err_from_is_err_and c.from_residual.result c.from_residual.ensures.1 in
+    rw (p.1, p.2) (sound_pairs c.args.text.now _ c.in_err-pairs.ensures.err)
