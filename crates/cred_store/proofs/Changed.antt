@@ -84,6 +84,7 @@ module _ (p q : Entry → Bool) where
       not_here : (b : Bool) → p x ≡ b → q x ≡ true → p x ≡ false
       not_here true here kept = absurd (true≢false (sym kept ∙ out x here))
       not_here false here kept = here
+
       by : (b : Bool) → q x ≡ b → find p (filter q xs) ≡ None → find p (cond b (x ∷ filter q xs) (filter q xs)) ≡ None
       by true kept more = ap (λ (v : Bool). cond v (Some x) (find p (filter q xs))) (not_here (p x) refl kept) ∙ more
       by false kept more = more
@@ -95,6 +96,7 @@ module _ (p q : Entry → Bool) where
       not_here : (b : Bool) → p x ≡ b → q x ≡ false → p x ≡ false
       not_here true here left = absurd (true≢false (sym (stays x here) ∙ left))
       not_here false here left = here
+
       by : (b : Bool) → q x ≡ b → find p (filter q xs) ≡ find p xs → find p (cond b (x ∷ filter q xs) (filter q xs)) ≡ find p (x ∷ xs)
       by true kept more = ap (λ (o : Option Entry). cond (p x) (Some x) o) more
       by false left more = more ∙ ap (λ (v : Bool). cond v (Some x) (find p xs)) (sym (not_here (p x) refl left))

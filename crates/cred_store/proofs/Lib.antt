@@ -7,3 +7,4 @@ pub mod Puts
 pub mod Pairs
 pub mod Changed
 pub mod OnePair
+pub mod Digests

@@ -97,7 +97,7 @@ last_of_both (x ∷ xs) (y ∷ ys) a b e = last_of_both xs ys a b cc
 one_order : (before : List Entry) (rest : List ℕ) (o p : Ordering) → NextStands before rest o → NextStands before rest p → o ≡ p
 one_order before rest o p h g =
     let cut = cut_once 10 (entry_text h.next) h.more (entry_text g.next) g.more (no_feed h.next h.is_entry) (no_feed g.next g.is_entry)
-        (sym (h.begins ∙ line_again h.next h.more) ∙ g.begins ∙ line_again g.next g.more) in
+    (sym (h.begins ∙ line_again h.next h.more) ∙ g.begins ∙ line_again g.next g.more) in
     let same = one_entry h.next g.next h.is_entry g.is_entry cut.0 in
     let ends = last_of_both h.front g.front h.last g.last (sym h.ends ∙ g.ends) in
     sym h.stands ∙ ap (λ (l : Entry). entry_cmp l h.next) ends ∙ ap (entry_cmp g.last) same ∙ g.stands

@@ -38,7 +38,7 @@ pair_parts line e h = record {
   no_name = passes_no is_plain_byte 58 refl e.name (plain_bytes e.name h.is_entry.name);
   no_realm = passes_no is_plain_byte 58 refl e.realm (plain_bytes e.realm h.is_entry.realm);
   no_value = passes_no either_case 58 refl h.value (all_lowered h.value
-    (digits_pass (str_to_ascii_lowercase h.value) (subst (λ (s : Secret). All (λ x. is_lower_digit x ≡ true) (text_of s)) h.is_secret h.is_entry.secret.form.1)));
+      (digits_pass (str_to_ascii_lowercase h.value) (subst (λ (s : Secret). All (λ x. is_lower_digit x ≡ true) (text_of s)) h.is_secret h.is_entry.secret.form.1)));
 }
 
 two_of_parts : (line a b c : List ℕ) → HasThreeParts line a b c → colons line ≡ 2
@@ -56,6 +56,7 @@ sound_three why line e h f = by why f.fault
   where
     are : (f.name ≡ e.name) × (f.realm ≡ e.realm) × (f.value ≡ h.value)
     are = three_are line _ _ _ _ _ _ f.parts (pair_parts line e h)
+
     by : (why : LineFault) → AreThreeFaulty why f.name f.realm f.value → ⊥
     by Form x = x
     by Header x = x

@@ -78,8 +78,8 @@ overlap (x ∷ es) (y ∷ fs) r q h g e =
     let is_x = All-head IsEntry x es h in
     let is_y = All-head IsEntry y fs g in
     let cut = cut_once 10 (entry_text x) (flat_map entry_line es ++ r) (entry_text y) (flat_map entry_line fs ++ q) (no_feed x is_x) (no_feed y is_y)
-        (sym (append_assoc (entry_line x) (flat_map entry_line es) r ∙ line_again x (flat_map entry_line es ++ r)) ∙ e
-         ∙ append_assoc (entry_line y) (flat_map entry_line fs) q ∙ line_again y (flat_map entry_line fs ++ q)) in
+    (sym (append_assoc (entry_line x) (flat_map entry_line es) r ∙ line_again x (flat_map entry_line es ++ r)) ∙ e
+    ∙ append_assoc (entry_line y) (flat_map entry_line fs) q ∙ line_again y (flat_map entry_line fs ++ q)) in
     overlap_more x y es fs r q (one_entry x y is_x is_y cut.0) (overlap es fs r q (All-tail IsEntry x es h) (All-tail IsEntry y fs g) cut.1)
 
 -- ---- a faulty line is no entry's
@@ -90,8 +90,10 @@ sound_parts why line e h is f =
   where
     theirs : HasParts line e.name e.realm (kind_name (algorithm_of e.secret)) (text_of e.secret)
     theirs = entry_parts line e h is
+
     are : (f.name ≡ e.name) × (f.realm ≡ e.realm) × (f.kind ≡ kind_name (algorithm_of e.secret)) × (f.value ≡ text_of e.secret)
     are = parts_are line _ _ _ _ _ _ _ _ f.parts theirs
+
     by : (why : LineFault) → ArePartsFaulty why f.name f.realm f.kind f.value → ⊥
     by Form x = x
     by Header x = x
@@ -117,7 +119,7 @@ clear_first why rest e more h is (inr line) =
 clear_order : (before : List Entry) (rest : List ℕ) (order : Ordering) (fs : List Entry) → IsRising fs → GoesOn before fs rest → NextStands before rest order → order ≢ Less → ⊥
 clear_order before rest order fs up g next other =
     let cut = cut_once 10 (entry_text next.next) next.more (entry_text g.next) g.more (no_feed next.next next.is_entry) (no_feed g.next g.is_entry)
-        (sym (next.begins ∙ line_again next.next next.more) ∙ g.begins ∙ line_again g.next g.more) in
+    (sym (next.begins ∙ line_again next.next next.more) ∙ g.begins ∙ line_again g.next g.more) in
     let same = one_entry next.next g.next next.is_entry g.is_entry cut.0 in
     let split : fs ≡ (next.front ++ next.last ∷ []) ++ g.next ∷ g.tail = g.splits ∙ ap (λ (l : List Entry). l ++ g.next ∷ g.tail) next.ends in
     let below = rising_between next.front next.last g.next g.tail (subst IsRising split up) in
@@ -182,6 +184,7 @@ one_store es fs h g same =
     by (inl both) = both.0
     by (inr (inl g)) = absurd (some_line g.next g.more (sym g.begins))
     by (inr (inr g)) = absurd (some_line g.next g.more (sym g.begins))
+
 -- ---- reading line by line
 
 pub fault_behind : (text : List ℕ) (before : List Entry) (rest : List ℕ) (error : StoreError) → IsStore before → text ≡ flat_map entry_line before ++ rest →

@@ -1,14 +1,15 @@
 //! One entry of a store.
 ghost use Rattle.std.specs.Prelude.{◌≡◌, ◌&&◌, IfOk, bytes_eq};
-ghost use Rattle.digest_formulas.specs.Secrets.{user_hash};
+ghost use Rattle.digest_formulas.specs.Secrets.{secret_of as secret_by, user_hash};
 ghost use Rattle.cred_store.specs.Keys.{key_at, key_cmp, key_of};
+ghost use Rattle.cred_store.specs.Kinds.{IsSecret};
 ghost use Rattle.cred_store.specs.LookUps.{algorithm_of, text_of, is_of, is_hashed};
 ghost use Rattle.cred_store.specs.Texts.{entry_at};
 
-use crate::kind::kind_name;
+use crate::kind::{digits_of, kind_name};
 use auth_grammar::{Octets, OutOfMemory};
 use auth_hash::{Algorithm, HexText};
-use digest_formulas::user_hash;
+use digest_formulas::{ha1, user_hash};
 use std::alloc::Global;
 use std::cmp::Ordering;
 
@@ -28,6 +29,17 @@ pub struct Entry {
 }
 
 impl Secret {
+    /// The secret of a name in a realm, by the password.
+    pub fn of_password(alg: Algorithm, name: &[u8], realm: &[u8], password: &[u8]) -> Secret
+        ensures algorithm { algorithm_of result ≡ alg }
+        ensures text { text_of result ≡ secret_by alg name.now realm.now password.now }
+        ensures form { IsSecret result }
+    {
+        let ha1 = ha1(alg, name, realm, password);
+        prove!(ha1.bytes().len() == digits_of(alg));
+        Secret::Digest { alg, ha1 }
+    }
+
     pub(crate) fn algorithm(&self) -> Algorithm
         ensures { result ≡ algorithm_of self.now }
     {

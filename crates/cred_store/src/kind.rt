@@ -37,7 +37,7 @@ pub(crate) fn algorithm_named(kind: &[u8]) -> Option<Algorithm>
 }
 
 /// How many hexadecimal digits a digest of the algorithm has.
-fn digits_of(alg: Algorithm) -> usize
+pub(crate) fn digits_of(alg: Algorithm) -> usize
     ensures { result ≡ digits_of alg }
 {
     match alg {

@@ -3,7 +3,7 @@
 //! `Mufasa:http-auth@example.org`, by sha256sum; that of `MUFASA` is RFC 2617's, by md5sum.
 use crate::{LineFault, Secret, Store, StoreError, reads_what_is_written};
 use auth_grammar::Octets;
-use auth_hash::{Algorithm, HexText};
+use auth_hash::Algorithm;
 use std::alloc::Global;
 use std::process::Abort;
 use std::test::Fail;
@@ -207,10 +207,14 @@ fn set_mufasa(
     name: &[u8],
     realm: &[u8],
 ) -> Result<(), StoreError> {
-    let ha1 = HexText::read(MUFASA).expect(rt, "a digest");
-    assert!(rt; ha1.bytes().len() == 32 && store.entries() < 10);
-    let alg = Algorithm::Md5;
-    store.set(alloc, name, realm, &Secret::Digest { alg, ha1 })
+    assert!(rt; store.entries() < 10);
+    let secret = Secret::of_password(
+        Algorithm::Md5,
+        b"Mufasa",
+        b"testrealm@host.com",
+        b"Circle Of Life",
+    );
+    store.set(alloc, name, realm, &secret)
 }
 
 #[test]
