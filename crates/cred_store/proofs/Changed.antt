@@ -1,6 +1,5 @@
 -- What look-ups find after a change.
 use Rattle.std.proofs.Common.{◌≡◌, ◌≢◌, ℕ, Bool, true, false, ◌&&◌, not, cond, if◌then◌else◌, List, [], ◌∷◌, filter, Option, Some, None, refl, sym, ap, ◌∙◌, true≢false}
-use Rattle.std.specs.Cmp.{IsTotalOrder}
 use Rattle.std.specs.Cmp.Lexicographic.{same_text}
 use Rattle.std.specs.List.{find}
 use Rattle.std.specs.Option.{option_map}
@@ -9,11 +8,10 @@ use Rattle.std.specs.Str.{bytes_eq}
 use Rattle.std.specs.declared.cmp.Ordering.{Ordering}
 use Rattle.std.specs.declared.cmp.Ordering.TheVariants.{Less, Equal, Greater}
 use Rattle.std.proofs.lemmas.Cmp.{alike_right}
-use Rattle.auth_hash.specs.Algorithm.{same_algorithm}
 use Rattle.auth_hash.specs.declared.algorithm.Algorithm.{Algorithm}
 use Rattle.cred_store.specs.Changes.{by_order, put, without}
-use Rattle.cred_store.specs.Keys.{Key, entry_cmp, key_at, key_cmp, key_of}
-use Rattle.cred_store.specs.LookUps.{algorithm_of, is_keyed, is_of, secret_of, text_of}
+use Rattle.cred_store.specs.Keys.{Key, entry_cmp, key_at, key_of}
+use Rattle.cred_store.specs.LookUps.{is_keyed, is_of, secret_of, text_of}
 use Rattle.cred_store.specs.declared.entry.Entry.{Entry}
 use Rattle.cred_store.proofs.Order.{keyed, keys_total}
 use Rattle.cred_store.proofs.Parts.{both_first, both_second}

@@ -1,14 +1,13 @@
 -- A text has one first fault.
-use Rattle.std.proofs.Common.{◌≡◌, ◌≢◌, ℕ, ◌+◌, ◌==◌, ◌⊎◌, true, false, List, [], ◌∷◌, ◌++◌, length, refl, sym, ap, ◌∙◌, subst, inl, inr, true≢false}
+use Rattle.std.proofs.Common.{◌≡◌, ◌≢◌, ℕ, ◌+◌, true, false, List, [], ◌∷◌, ◌++◌, length, refl, sym, ap, ◌∙◌, subst, inl, inr, true≢false}
 use Rattle.std.specs.List.{flat_map}
 use Rattle.std.specs.declared.cmp.Ordering.{Ordering}
-use Rattle.std.specs.declared.cmp.Ordering.TheVariants.{Less, Equal, Greater}
+use Rattle.std.specs.declared.cmp.Ordering.TheVariants.{Equal, Greater}
 use Rattle.std.proofs.lemmas.List.{append_assoc}
-use Rattle.auth_hash.specs.declared.algorithm.Algorithm.{Algorithm}
 use Rattle.auth_grammar.specs.Plain.{is_plain_name}
 use Rattle.cred_store.specs.Faults.{ArePartsFaulty, BeginsFaulty, FaultAfter, FaultBehind, FirstFault, HasFaultyParts, IsFaulty, IsTitleFaulty, NextStands}
 use Rattle.cred_store.specs.Keys.{entry_cmp}
-use Rattle.cred_store.specs.Texts.{entry_line, entry_text, header, store_text}
+use Rattle.cred_store.specs.Texts.{entry_line, entry_text, header}
 use Rattle.cred_store.specs.declared.entry.Entry.{Entry}
 use Rattle.cred_store.specs.declared.error.LineFault.{LineFault}
 use Rattle.cred_store.specs.declared.error.LineFault.TheVariants.{Form, Name, Realm, Kind, Value, Header}

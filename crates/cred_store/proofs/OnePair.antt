@@ -1,5 +1,5 @@
 -- A faulty line of htdigest says no entry.
-use Rattle.std.proofs.Common.{◌≡◌, ◌≢◌, ℕ, suc, ◌+◌, ◌==◌, ◌⊎◌, Bool, true, false, ◌&&◌, not, cond, List, [], ◌∷◌, ◌++◌, length, map, All, refl, sym, ap, ◌∙◌, subst, inl, inr, true≢false, arith}
+use Rattle.std.proofs.Common.{◌≡◌, ◌≢◌, ℕ, ◌+◌, ◌==◌, Bool, true, false, ◌&&◌, not, cond, List, [], ◌∷◌, ◌++◌, length, map, All, refl, sym, ap, ◌∙◌, subst, inl, inr, true≢false, arith}
 use Rattle.std.specs.Char.{to_ascii_lowercase}
 use Rattle.std.specs.List.{AllZip, list_all}
 use Rattle.std.specs.Str.{str_to_ascii_lowercase}
@@ -7,10 +7,9 @@ use Rattle.std.specs.Str.Lines.{lines}
 use Rattle.auth_grammar.specs.Plain.{is_plain_byte, is_plain_name}
 use Rattle.auth_hash.specs.HexText.{is_lower_digit}
 use Rattle.cred_store.specs.Faults.{colons}
-use Rattle.cred_store.specs.Htdigest.{ArePairs, AreThreeFaulty, FirstPairFault, HasThreeFaulty, HasThreeParts, IsPair, IsPairFaulty, PairFault, PairFaultBehind, full_lines, md5_secret}
+use Rattle.cred_store.specs.Htdigest.{ArePairs, AreThreeFaulty, HasThreeFaulty, HasThreeParts, IsPair, IsPairFaulty, PairFault, PairFaultBehind, full_lines, md5_secret}
 use Rattle.cred_store.specs.Kinds.{IsSecret}
 use Rattle.cred_store.specs.LookUps.{text_of}
-use Rattle.cred_store.specs.Texts.{HasNo}
 use Rattle.cred_store.specs.declared.entry.Entry.{Entry}
 use Rattle.cred_store.specs.declared.entry.Secret.{Secret}
 use Rattle.cred_store.specs.declared.error.LineFault.{LineFault}

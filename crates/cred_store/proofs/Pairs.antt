@@ -1,6 +1,6 @@
 -- What the lines of a text of htdigest say.
-use Rattle.std.proofs.Common.{◌≡◌, ◌≢◌, ◌==◌, ◌+◌, ◌<◌, ◌≤◌, ℕ, zero, suc, Bool, true, false, not, cond, List, [], ◌∷◌, ◌++◌, length, filter, All, refl, sym, subst, ap, ◌∙◌, arith, true≢false, if◌then◌else◌, Option, None, Some, IfNone}
-use Rattle.std.specs.List.{AllZip, list_any, slice_split, count_by}
+use Rattle.std.proofs.Common.{◌≡◌, ◌≢◌, ◌==◌, ◌+◌, ◌<◌, ◌≤◌, ℕ, suc, Bool, true, false, not, List, [], ◌∷◌, ◌++◌, length, All, refl, sym, subst, ap, ◌∙◌, arith, if◌then◌else◌, Option, None, Some, IfNone}
+use Rattle.std.specs.List.{AllZip, list_any, slice_split}
 use Rattle.std.specs.Str.Lines.{lines, lines_of_parts, strip_carriage_return}
 use Rattle.std.proofs.lemmas.Bool.Decides.{nat_tests}
 use Rattle.std.proofs.lemmas.List.{append-nil, append_assoc, length-append}

@@ -1,17 +1,16 @@
 -- A line is told by its parts, and a text by its lines.
-use Rattle.std.proofs.Common.{◌≡◌, ◌≢◌, ◌==◌, ◌+◌, ◌<◌, ℕ, Bool, true, false, ◌&&◌, ◌||◌, not, nat_le, cond, List, [], ◌∷◌, ◌++◌, length, refl, sym, ap, ◌∙◌, true≢false, eq-eqb, arith, IsTrue, All}
-use Rattle.std.specs.List.{list_any, list_all, count_by}
-use Rattle.std.proofs.lemmas.List.{append_assoc}
+use Rattle.std.proofs.Common.{◌≡◌, ◌≢◌, ◌==◌, ◌+◌, ◌<◌, ℕ, Bool, true, false, ◌&&◌, ◌||◌, not, nat_le, cond, List, [], ◌∷◌, ◌++◌, length, refl, sym, ap, ◌∙◌, true≢false, eq-eqb, arith, All}
+use Rattle.std.specs.List.{list_any, list_all}
 use Rattle.std.proofs.lemmas.List.Elements.{All-head, All-tail}
 use Rattle.std.proofs.lemmas.List.Sums.{sum_by-append, sum_by-cons}
-use Rattle.auth_grammar.specs.Plain.{is_printable, is_plain_byte, is_plain_name}
-use Rattle.auth_hash.specs.HexText.{IsHexText, is_lower_digit}
+use Rattle.auth_grammar.specs.Plain.{is_plain_byte, is_plain_name}
+use Rattle.auth_hash.specs.HexText.{is_lower_digit}
 use Rattle.auth_hash.specs.declared.algorithm.Algorithm.{Algorithm}
 use Rattle.auth_hash.specs.declared.algorithm.Algorithm.TheVariants.{Md5, Sha256, Sha512t256}
 use Rattle.cred_store.specs.Faults.{colons, HasParts}
-use Rattle.cred_store.specs.Kinds.{IsSecret, kind_name}
+use Rattle.cred_store.specs.Kinds.{kind_name}
 use Rattle.cred_store.specs.LookUps.{algorithm_of, text_of}
-use Rattle.cred_store.specs.Texts.{HasNo, IsEntry, line_of, entry_text, entry_line}
+use Rattle.cred_store.specs.Texts.{HasNo, IsEntry, entry_text}
 use Rattle.cred_store.specs.declared.entry.Entry.{Entry}
 use Rattle.cred_store.specs.declared.entry.Secret.{Secret}
 use Rattle.cred_store.specs.declared.entry.Secret.TheVariants.{Digest}

@@ -1,20 +1,19 @@
 -- What putting entries in leaves.
-use Rattle.std.proofs.Common.{◌≡◌, ◌+◌, ◌<◌, ◌≤◌, ℕ, zero, suc, Bool, true, false, not, List, [], ◌∷◌, ◌++◌, length, get_or, set, filter, All, refl, sym, ap, ◌∙◌, arith}
-use Rattle.std.specs.Cmp.{IsTotalOrder}
+use Rattle.std.proofs.Common.{◌≡◌, ◌+◌, ◌<◌, ◌≤◌, ℕ, zero, suc, not, List, [], ◌∷◌, ◌++◌, length, get_or, set, All, refl, sym, ap, ◌∙◌, arith}
 use Rattle.std.specs.List.{AllByRecursion, HoldsAt, insert}
 use Rattle.std.specs.List.Sorted.{IsStrictlySortedBy, IsPartitionPoint}
 use Rattle.std.specs.Ordering.{ordering_reverse}
 use Rattle.std.specs.declared.cmp.Ordering.{Ordering}
 use Rattle.std.specs.declared.cmp.Ordering.TheVariants.{Less, Equal, Greater}
 use Rattle.std.proofs.lemmas.Cmp.{alike_right}
-use Rattle.std.proofs.lemmas.List.Elements.{All-cons, All-filter, All-head, All-nil, All-tail}
+use Rattle.std.proofs.lemmas.List.Elements.{All-cons, All-filter, All-head, All-tail}
 use Rattle.std.proofs.lemmas.List.Kept.{IsStrictlySortedBy-filter}
 use Rattle.cred_store.specs.Changes.{by_order, put, put_all, without}
 use Rattle.cred_store.specs.Keys.{IsRising, entry_cmp}
 use Rattle.cred_store.specs.LookUps.{is_of}
 use Rattle.cred_store.specs.Texts.{IsEntry, IsStore}
 use Rattle.cred_store.specs.declared.entry.Entry.{Entry}
-use Rattle.cred_store.proofs.Order.{entries_total, rising_none, rising_one}
+use Rattle.cred_store.proofs.Order.{entries_total}
 use Rattle.cred_store.proofs.Searches.{all_at}
 
 module _ (e : Entry) where

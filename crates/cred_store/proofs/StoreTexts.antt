@@ -1,5 +1,5 @@
 -- A text is that of one store at most.
-use Rattle.std.proofs.Common.{◌≡◌, ◌≢◌, ℕ, ◌+◌, ◌==◌, ◌⊎◌, true, false, List, [], ◌∷◌, ◌++◌, length, All, Result, Ok, Err, IfOk, refl, sym, ap, ◌∙◌, subst, inl, inr, true≢false}
+use Rattle.std.proofs.Common.{◌≡◌, ◌≢◌, ℕ, ◌+◌, ◌==◌, ◌⊎◌, List, [], ◌∷◌, ◌++◌, length, All, Result, Ok, Err, IfOk, refl, sym, ap, ◌∙◌, subst, inl, inr, true≢false}
 use Rattle.std.specs.List.{flat_map, list_any}
 use Rattle.std.specs.declared.cmp.Ordering.{Ordering}
 use Rattle.std.specs.declared.cmp.Ordering.TheVariants.{Less, Equal, Greater}
@@ -9,7 +9,7 @@ use Rattle.std.proofs.lemmas.List.Elements.{All-head, All-tail}
 use Rattle.auth_grammar.specs.Plain.{is_plain_name}
 use Rattle.cred_store.specs.Faults.{ArePartsFaulty, BeginsFaulty, FaultAfter, FaultBehind, FirstFault, HasFaultyParts, HasParts, IsFaulty, IsTitleFaulty, NextStands}
 use Rattle.cred_store.specs.Keys.{IsRising, entry_cmp}
-use Rattle.cred_store.specs.Kinds.{IsSecret, kind_name}
+use Rattle.cred_store.specs.Kinds.{kind_name}
 use Rattle.cred_store.specs.LookUps.{algorithm_of, text_of}
 use Rattle.cred_store.specs.Texts.{HasNo, IsEntry, IsStore, entry_text, entry_line, header, store_text, title}
 use Rattle.cred_store.specs.declared.entry.Entry.{Entry}

@@ -1,5 +1,5 @@
 -- How the entries of a store change.
-use Rattle.std.specs.Prelude.{ℕ, Bool, not, List, [], ◌∷◌, filter}
+use Rattle.std.specs.Prelude.{ℕ, not, List, [], ◌∷◌, filter}
 use Rattle.std.specs.declared.cmp.Ordering.{Ordering}
 use Rattle.std.specs.declared.cmp.Ordering.TheVariants.{Less, Equal, Greater}
 use Rattle.cred_store.specs.Keys.{entry_cmp}

@@ -1,4 +1,4 @@
-use Rattle.std.proofs.Common.{Some, None, ap, sym, ◌∙◌, Option}
+use Rattle.std.proofs.Common.{Some, ap, sym, ◌∙◌}
 use Rattle.std.specs.Option.{option_map}
 use Rattle.cred_store.specs.Keys.{key_at}
 use Rattle.cred_store.specs.LookUps.{is_keyed, text_of}

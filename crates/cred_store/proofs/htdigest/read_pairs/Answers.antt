@@ -1,4 +1,3 @@
-use Rattle.std.proofs.Common.{arith}
 use Rattle.cred_store.proofs.Pairs.{read_few, read_more}
 use Rattle.cred_store.proofs.htdigest.read_pairs.Goals as goal
 

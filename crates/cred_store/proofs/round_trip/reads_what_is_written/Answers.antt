@@ -1,4 +1,4 @@
-use Rattle.std.proofs.Common.{sym, ◌∙◌}
+use Rattle.std.proofs.Common.{◌∙◌}
 use Rattle.cred_store.proofs.StoreTexts.{same_again}
 use Rattle.cred_store.proofs.round_trip.reads_what_is_written.Goals as goal
 

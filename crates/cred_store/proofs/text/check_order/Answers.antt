@@ -1,5 +1,4 @@
 use Rattle.std.proofs.Common.{sym, ◌∙◌, ap, subst, ◌++◌, ◌∷◌, [], List}
-use Rattle.std.specs.Option.{option_copied}
 use Rattle.auth_hash.specs.declared.algorithm.Algorithm.{Algorithm}
 use Rattle.cred_store.specs.Keys.{IsRising, key_at, key_cmp, key_of}
 use Rattle.cred_store.specs.Texts.{entry_at}

@@ -1,4 +1,4 @@
-use Rattle.std.proofs.Common.{arith, ap, length, sym, ◌∙◌, ◌≡◌, ◌≤◌, List, []}
+use Rattle.std.proofs.Common.{arith, ap, length, ◌∙◌, ◌≡◌, List, []}
 use Rattle.std.specs.Str.Lines.{lines}
 use Rattle.std.proofs.lemmas.List.Elements.{All-nil}
 use Rattle.std.proofs.lemmas.Result.{err_from_is_err_and}

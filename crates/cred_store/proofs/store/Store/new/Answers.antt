@@ -1,7 +1,6 @@
-use Rattle.std.proofs.Common.{sym, subst, arith, ◌<◌, ◌^◌, length, [], List}
+use Rattle.std.proofs.Common.{arith}
 use Rattle.std.proofs.lemmas.List.Elements.{All-nil}
-use Rattle.cred_store.specs.Texts.{IsEntry, IsStore}
-use Rattle.cred_store.specs.declared.entry.Entry.{Entry}
+use Rattle.cred_store.specs.Texts.{IsEntry}
 use Rattle.cred_store.proofs.Order.{rising_none}
 use Rattle.cred_store.proofs.store.Store.new.Goals as goal
 

@@ -1,6 +1,5 @@
 use Rattle.std.proofs.Common.{inl, inr, refl}
 use Rattle.std.proofs.lemmas.Result.{err_from_is_err_and}
-use Rattle.cred_store.specs.Faults.{FaultBehind}
 use Rattle.cred_store.proofs.StoreTexts.{sound}
 use Rattle.cred_store.proofs.store.Store.read.Goals as goal
 

@@ -1,4 +1,4 @@
-use Rattle.std.proofs.Common.{arith, not, Bool}
+use Rattle.std.proofs.Common.{arith, not}
 use Rattle.std.proofs.lemmas.List.Sums.{count_by-le-length, length-filter}
 use Rattle.cred_store.specs.LookUps.{is_of}
 use Rattle.cred_store.specs.declared.entry.Entry.{Entry}
