@@ -1,0 +1,15 @@
+use Rattle.std.proofs.Common.{◌≡◌, ◌-◌, ◌≤◌, length, take}
+use Rattle.std.specs.Io.KnownBytes.{Appends}
+use Rattle.authd.proofs.printing.print.Given as goal
+
+abbrev pub invariant-loop-at : goal.invariant-loop-at
+invariant-loop-at g l = record {
+  within : l.at ≤ length l.text;
+  wrote : Appends (g.L.Link.written l.initial.link) (g.L.Link.written l.link) (take l.at l.text);
+  left : g.L.Link.left l.link ≡ g.L.Link.left l.initial.link;
+  read_faults : g.L.Link.read_faults l.link ≡ g.L.Link.read_faults l.initial.link;
+  write_faults : g.L.Link.write_faults l.link ≡ g.L.Link.write_faults l.initial.link;
+}
+
+abbrev pub decreases-loop-at : goal.decreases-loop-at
+decreases-loop-at g l = length l.text - l.at

@@ -1,0 +1,8 @@
+-- What the program's own form of a command stands for.
+use Rattle.authd.specs.Words as words
+use Rattle.authd.specs.declared.command.Command.{Command}
+use Rattle.authd.specs.declared.command.Command.TheVariants.{Usage, Show}
+
+abbrev pub meaning : Command → words.Command
+meaning Usage = words.Usage
+meaning Show = words.Show

@@ -1,0 +1,38 @@
+-- What was read of an input of limited length.
+use Rattle.std.specs.Prelude.{◌≡◌, ℕ, ◌+◌, ◌<◌, ◌≤◌, ⊤, Bool, true, false, List, [], ◌++◌, length, Option, Result, Ok, Err}
+use Rattle.std.specs.Io.KnownBytes.{Consumes, IsAtEnd}
+use Rattle.authd.specs.declared.failure.Failure.{Failure}
+use Rattle.authd.specs.declared.failure.Failure.TheVariants.{Usage, TooLong, NotGrammar, Twice, ReadFault, WriteFault, OutOfMemory}
+
+-- all that there was to read, of at most 16,384 bytes
+abbrev pub IsWhole : List ℕ → Option (List ℕ) → Type 0
+IsWhole input left = (length input ≤ 16384) × IsAtEnd left
+
+-- what an answer says of the bytes that were read
+abbrev pub IsInput : List ℕ → Option (List ℕ) → Result (List ℕ) Failure → Type 0
+IsInput got left (Ok input) = (input ≡ got) × IsWhole got left
+IsInput got left (Err Usage) = ⊥
+IsInput got left (Err TooLong) = length got ≡ 16385
+IsInput got left (Err (NotGrammar at)) = ⊥
+IsInput got left (Err (Twice at)) = ⊥
+IsInput got left (Err ReadFault) = ⊤
+IsInput got left (Err WriteFault) = ⊥
+IsInput got left (Err OutOfMemory) = ⊤
+
+abbrev pub ReadsInput : Option (List ℕ) → Option (List ℕ) → Result (List ℕ) Failure → Type 0
+ReadsInput left left' result = (got : List ℕ) × Consumes left left' got × (length got ≤ 16385) × IsInput got left' result
+
+-- what an answer says of one piece that was read behind an input
+abbrev pub IsPiece : List ℕ → List ℕ → List ℕ → Option (List ℕ) → Result Bool Failure → Type 0
+IsPiece input input' got left (Ok true) = (input' ≡ input ++ got) × (0 < length got)
+IsPiece input input' got left (Ok false) = (input' ≡ input) × (got ≡ []) × IsAtEnd left
+IsPiece input input' got left (Err Usage) = ⊥
+IsPiece input input' got left (Err TooLong) = ⊥
+IsPiece input input' got left (Err (NotGrammar at)) = ⊥
+IsPiece input input' got left (Err (Twice at)) = ⊥
+IsPiece input input' got left (Err ReadFault) = ⊤
+IsPiece input input' got left (Err WriteFault) = ⊥
+IsPiece input input' got left (Err OutOfMemory) = ⊤
+
+abbrev pub ReadsPiece : Option (List ℕ) → Option (List ℕ) → List ℕ → List ℕ → Result Bool Failure → Type 0
+ReadsPiece left left' input input' result = (got : List ℕ) × Consumes left left' got × (length input + length got ≤ 16385) × IsPiece input input' got left' result

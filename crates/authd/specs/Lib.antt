@@ -1,0 +1,5 @@
+pub mod Words
+pub mod Endings
+pub mod Inputs
+pub mod Show
+pub mod Commands

@@ -1,0 +1,22 @@
+-- What the words of the command line ask for.
+use Rattle.std.specs.Prelude.{ℕ, Bool, true, false, ◌==◌, not, bytes_eq, if◌then◌else◌, List, [], ◌∷◌, codes}
+use Rattle.std.specs.List.{list_all}
+
+pub data Command : Type 0 where
+  -- the words are none that the program knows
+  Usage : Command
+  Show : Command
+
+-- a word of the command line isn't empty and doesn't begin with `-`
+abbrev pub is_word : List ℕ → Bool
+is_word [] = false
+is_word (b ∷ word) = not (b == 45)
+
+-- a command by its name, with exactly its words
+abbrev pub named : List (List ℕ) → Command
+named [] = Usage
+named (name ∷ []) = if bytes_eq name (codes "show") then Show else Usage
+named (name ∷ word ∷ words) = Usage
+
+abbrev pub command_of : List (List ℕ) → Command
+command_of words = if list_all is_word words then named words else Usage

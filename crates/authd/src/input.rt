@@ -1,0 +1,48 @@
+//! Reading a whole input of limited length.
+ghost use Rattle.std.specs.Prelude.{◌≡◌, ◌≤◌, Err, length};
+ghost use Rattle.auth_io.specs.Causes.{Rose};
+ghost use Rattle.authd.specs.Inputs.{ReadsInput, ReadsPiece};
+
+use crate::failure::Failure;
+use auth_grammar::Octets;
+use auth_io::Link;
+use std::alloc::Global;
+
+/// How many bytes an input may have.
+const INPUT_LIMIT: usize = 16_384;
+
+/// Reads a piece of the input, no more than up to the first byte that is too many. Whether there was any.
+fn read_piece<L: Link>(link: &mut L, input: &mut Octets) -> Result<bool, Failure>
+    requires { length input.old ≤ 16384 }
+    ensures piece { ReadsPiece (L.left link.old) (L.left link.new) input.old input.new result }
+    ensures written { L.written link.new ≡ L.written link.old }
+    ensures write_faults { L.write_faults link.new ≡ L.write_faults link.old }
+    ensures later { L.read_faults link.old ≤ L.read_faults link.new }
+    ensures fault { result ≡ Err Failure.ReadFault → Rose (L.read_faults link.old) (L.read_faults link.new) }
+{
+    let mut piece = [0; 4096];
+    let room = (INPUT_LIMIT + 1 - input.len()).min(4096);
+    let into = &mut piece[..room];
+    let Ok(count) = link.read(into) else {
+        return Err(Failure::ReadFault);
+    };
+    input.extend(&into[..count])?;
+    Ok(count > 0)
+}
+
+/// Reads the input to its end. `TooLong` comes where it has more than 16,384 bytes, of which no more than one is read.
+pub(crate) fn read_input<L: Link>(alloc: Global, link: &mut L) -> Result<Octets, Failure>
+    ensures input { ReadsInput (L.left link.old) (L.left link.new) result }
+    ensures written { L.written link.new ≡ L.written link.old }
+    ensures write_faults { L.write_faults link.new ≡ L.write_faults link.old }
+    ensures later { L.read_faults link.old ≤ L.read_faults link.new }
+    ensures fault { result ≡ Err Failure.ReadFault → Rose (L.read_faults link.old) (L.read_faults link.new) }
+{
+    let mut input = Octets::new(alloc);
+    while input.len() <= INPUT_LIMIT {
+        if !read_piece(link, &mut input)? {
+            return Ok(input);
+        }
+    }
+    Err(Failure::TooLong)
+}

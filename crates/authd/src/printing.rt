@@ -1,0 +1,45 @@
+//! Writing whole texts.
+ghost use Rattle.std.specs.Prelude.{◌≡◌, ◌≤◌, ◌⊎◌, ℕ, Err, OnOk, OnErr, IfErr, take};
+ghost use Rattle.std.specs.Io.KnownBytes.{Appends};
+ghost use Rattle.auth_io.specs.Causes.{Rose};
+ghost use Rattle.authd.specs.Endings.{Tells, IsPrintFailure};
+
+use crate::failure::Failure;
+use auth_grammar::OutOfMemory;
+use auth_io::{Link, Sink, Wrote};
+
+/// Writes all of the text to the link.
+pub(crate) fn print<L: Link>(link: &mut L, text: &[u8]) -> Result<(), Failure>
+    ensures ok { OnOk result (Appends (L.written link.old) (L.written link.new) text.now) }
+    ensures err { OnErr result ((n : ℕ) × Appends (L.written link.old) (L.written link.new) (take n text.now)) }
+    ensures kind { IfErr result IsPrintFailure }
+    ensures left { L.left link.new ≡ L.left link.old }
+    ensures read_faults { L.read_faults link.new ≡ L.read_faults link.old }
+    ensures fault { result ≡ Err Failure.WriteFault → Rose (L.write_faults link.old) (L.write_faults link.new) }
+{
+    let mut at = 0;
+    while at < text.len() {
+        match link.write(&text[at..]) {
+            Wrote::Taken(count) => at += count,
+            Wrote::Failed => return Err(Failure::WriteFault),
+            Wrote::OutOfMemory => return Err(Failure::OutOfMemory),
+        }
+    }
+    Ok(())
+}
+
+/// Writes all of the text, or as much as goes before a write fails.
+pub(crate) fn tell<D: Sink>(diag: &mut D, text: &[u8]) -> Result<(), OutOfMemory>
+    ensures ok { OnOk result (Tells (D.written diag.old) (D.written diag.new) (D.faults diag.old) (D.faults diag.new) text.now) }
+    ensures err { OnErr result ((n : ℕ) × Appends (D.written diag.old) (D.written diag.new) (take n text.now)) }
+{
+    let mut at = 0;
+    while at < text.len() {
+        match diag.write(&text[at..]) {
+            Wrote::Taken(count) => at += count,
+            Wrote::Failed => return Ok(()),
+            Wrote::OutOfMemory => return Err(OutOfMemory),
+        }
+    }
+    Ok(())
+}

@@ -1,0 +1,86 @@
+//! The command `show`: the items that the lines of a field spell.
+ghost use Rattle.std.specs.Prelude.{◌≡◌, ◌≤◌, ◌++◌, ◌∷◌, [], Err, IfOk, OnOk};
+ghost use Rattle.std.specs.Str.Lines.{lines, strip_carriage_return};
+ghost use Rattle.auth_io.specs.Causes.{Rose};
+ghost use Rattle.auth_grammar.specs.Writing.{item_text};
+ghost use Rattle.auth_grammar.specs.declared.items.Quoting.TheVariants as quoting;
+ghost use Rattle.authd.specs.Show.{IsShown, Shows, item_lines};
+
+use crate::failure::Failure;
+use crate::input::read_input;
+use crate::printing::print;
+use auth_grammar::{
+    GrammarError, Item, ItemList, Octets, OctetsList, OutOfMemory, Quoting, cut_at,
+    read_challenges, write_items,
+};
+use auth_io::Link;
+use std::alloc::Global;
+
+/// Reads the lines of a field with challenges to the end of the input, and writes each item in its one text on a line.
+/// An input of more than 16,384 bytes is refused. Nothing is written of an input that is refused.
+pub(crate) fn show<L: Link>(alloc: Global, link: &mut L) -> Result<(), Failure>
+    ensures shows { Shows (L.left link.old) (L.left link.new) (L.written link.old) (L.written link.new) result }
+    ensures read_fault { result ≡ Err Failure.ReadFault → Rose (L.read_faults link.old) (L.read_faults link.new) }
+    ensures write_fault { result ≡ Err Failure.WriteFault → Rose (L.write_faults link.old) (L.write_faults link.new) }
+{
+    let input = read_input(alloc, link)?;
+    let text = shown(alloc, input.bytes())?;
+    print(link, text.bytes())
+}
+
+/// What is to be written for an input.
+fn shown(alloc: Global, input: &[u8]) -> Result<Octets, Failure>
+    ensures { IsShown input.now result }
+{
+    let lines = lines_of(alloc, input)?;
+    match read_challenges(alloc, &lines) {
+        Ok(items) => Ok(item_lines(alloc, items)?),
+        Err(GrammarError::NotGrammar { at }) => Err(Failure::NotGrammar { at }),
+        Err(GrammarError::Twice { at, .. }) => Err(Failure::Twice { at }),
+        Err(GrammarError::OutOfMemory) => Err(Failure::OutOfMemory),
+    }
+}
+
+/// The lines of a text. Each ends with LF or CR LF, but the last one need not.
+fn lines_of(alloc: Global, text: &[u8]) -> Result<OctetsList, OutOfMemory>
+    ensures { IfOk result (λ list. list ≡ lines text.now) }
+{
+    let mut list = OctetsList::new(alloc);
+    let mut rest = text;
+    while let Some((line, behind)) = cut_at(rest, b'\n') {
+        list.push(Octets::of(alloc, without_return(line))?)?;
+        rest = behind;
+    }
+    if !rest.is_empty() {
+        list.push(Octets::of(alloc, rest)?)?;
+    }
+    Ok(list)
+}
+
+/// A line without the one CR at its end.
+fn without_return(line: &[u8]) -> &[u8]
+    ensures { result.now ≡ strip_carriage_return line.now }
+{
+    line.strip_suffix(b"\r").unwrap_or(line)
+}
+
+/// The text of items, each on a line.
+fn item_lines(alloc: Global, items: ItemList) -> Result<Octets, OutOfMemory>
+    ensures { IfOk result (λ text. text ≡ item_lines items) }
+{
+    let mut text = Octets::new(alloc);
+    for item in items.into_vec() {
+        push_item(alloc, &mut text, item)?;
+    }
+    Ok(text)
+}
+
+/// Adds an item and a line feed.
+fn push_item(alloc: Global, text: &mut Octets, item: Item) -> Result<(), OutOfMemory>
+    ensures { OnOk result (text.new ≡ text.old ++ (item_text quoting.Challenge item ++ 10 ∷ [])) }
+{
+    let mut items = ItemList::new(alloc);
+    items.push(item)?;
+    text.extend(write_items(alloc, &items, Quoting::Challenge)?.bytes())?;
+    text.push(b'\n')
+}
