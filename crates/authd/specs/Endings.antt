@@ -3,7 +3,7 @@ use Rattle.std.specs.Prelude.{◌≡◌, ◌⊎◌, ℕ, ⊤, List, [], ◌∷�
 use Rattle.std.specs.Io.KnownBytes.{Appends}
 use Rattle.auth_io.specs.Causes.{Rose}
 use Rattle.authd.specs.declared.failure.Failure.{Failure}
-use Rattle.authd.specs.declared.failure.Failure.TheVariants.{Usage, TooLong, NotGrammar, Twice, ReadFault, WriteFault, OutOfMemory}
+use Rattle.authd.specs.declared.failure.Failure.TheVariants.{Usage, TooLong, NotGrammar, Twice, StoreAbsent, SpacesAbsent, FileTooLong, NotBuilt, ReadFault, WriteFault, RandomFault, FileFault, Truncated, Worn, OutOfMemory}
 
 abbrev pub Ending : Type 0
 Ending = Result (Unit {0}) Failure
@@ -13,8 +13,16 @@ status_of Usage = 2
 status_of TooLong = 3
 status_of (NotGrammar at) = 3
 status_of (Twice at) = 3
+status_of StoreAbsent = 3
+status_of SpacesAbsent = 3
+status_of FileTooLong = 3
+status_of NotBuilt = 3
 status_of ReadFault = 4
 status_of WriteFault = 4
+status_of RandomFault = 4
+status_of FileFault = 4
+status_of (Truncated at) = 5
+status_of Worn = 6
 status_of OutOfMemory = 7
 
 -- words and a number on a line
@@ -27,8 +35,16 @@ line_of Usage = codes "usage: authd COMMAND WORDS\n"
 line_of TooLong = codes "too long\n"
 line_of (NotGrammar at) = numbered_line (codes "not grammar at ") at
 line_of (Twice at) = numbered_line (codes "twice at ") at
+line_of StoreAbsent = codes "store absent\n"
+line_of SpacesAbsent = codes "spaces absent\n"
+line_of FileTooLong = codes "file too long\n"
+line_of NotBuilt = codes "not built\n"
 line_of ReadFault = []
 line_of WriteFault = []
+line_of RandomFault = []
+line_of FileFault = []
+line_of (Truncated at) = numbered_line (codes "truncated at ") at
+line_of Worn = []
 line_of OutOfMemory = []
 
 -- The text was written whole, or a front of it up to a write that failed.
@@ -48,6 +64,14 @@ IsPrintFailure Usage = ⊥
 IsPrintFailure TooLong = ⊥
 IsPrintFailure (NotGrammar at) = ⊥
 IsPrintFailure (Twice at) = ⊥
+IsPrintFailure StoreAbsent = ⊥
+IsPrintFailure SpacesAbsent = ⊥
+IsPrintFailure FileTooLong = ⊥
+IsPrintFailure NotBuilt = ⊥
 IsPrintFailure ReadFault = ⊥
+IsPrintFailure RandomFault = ⊥
+IsPrintFailure FileFault = ⊥
+IsPrintFailure (Truncated at) = ⊥
+IsPrintFailure Worn = ⊥
 IsPrintFailure WriteFault = ⊤
 IsPrintFailure OutOfMemory = ⊤

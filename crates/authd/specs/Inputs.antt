@@ -2,7 +2,7 @@
 use Rattle.std.specs.Prelude.{◌≡◌, ℕ, ◌+◌, ◌<◌, ◌≤◌, ⊤, Bool, true, false, List, [], ◌++◌, length, Option, Result, Ok, Err}
 use Rattle.std.specs.Io.KnownBytes.{Consumes, IsAtEnd}
 use Rattle.authd.specs.declared.failure.Failure.{Failure}
-use Rattle.authd.specs.declared.failure.Failure.TheVariants.{Usage, TooLong, NotGrammar, Twice, ReadFault, WriteFault, OutOfMemory}
+use Rattle.authd.specs.declared.failure.Failure.TheVariants.{Usage, TooLong, NotGrammar, Twice, StoreAbsent, SpacesAbsent, FileTooLong, NotBuilt, ReadFault, WriteFault, RandomFault, FileFault, Truncated, Worn, OutOfMemory}
 
 -- all that there was to read, of at most 16,384 bytes
 abbrev pub IsWhole : List ℕ → Option (List ℕ) → Type 0
@@ -15,6 +15,14 @@ IsInput got left (Err Usage) = ⊥
 IsInput got left (Err TooLong) = length got ≡ 16385
 IsInput got left (Err (NotGrammar at)) = ⊥
 IsInput got left (Err (Twice at)) = ⊥
+IsInput got left (Err StoreAbsent) = ⊥
+IsInput got left (Err SpacesAbsent) = ⊥
+IsInput got left (Err FileTooLong) = ⊥
+IsInput got left (Err NotBuilt) = ⊥
+IsInput got left (Err RandomFault) = ⊥
+IsInput got left (Err FileFault) = ⊥
+IsInput got left (Err (Truncated at)) = ⊥
+IsInput got left (Err Worn) = ⊥
 IsInput got left (Err ReadFault) = ⊤
 IsInput got left (Err WriteFault) = ⊥
 IsInput got left (Err OutOfMemory) = ⊤
@@ -30,6 +38,14 @@ IsPiece input input' got left (Err Usage) = ⊥
 IsPiece input input' got left (Err TooLong) = ⊥
 IsPiece input input' got left (Err (NotGrammar at)) = ⊥
 IsPiece input input' got left (Err (Twice at)) = ⊥
+IsPiece input input' got left (Err StoreAbsent) = ⊥
+IsPiece input input' got left (Err SpacesAbsent) = ⊥
+IsPiece input input' got left (Err FileTooLong) = ⊥
+IsPiece input input' got left (Err NotBuilt) = ⊥
+IsPiece input input' got left (Err RandomFault) = ⊥
+IsPiece input input' got left (Err FileFault) = ⊥
+IsPiece input input' got left (Err (Truncated at)) = ⊥
+IsPiece input input' got left (Err Worn) = ⊥
 IsPiece input input' got left (Err ReadFault) = ⊤
 IsPiece input input' got left (Err WriteFault) = ⊥
 IsPiece input input' got left (Err OutOfMemory) = ⊤

@@ -1,5 +1,8 @@
 pub mod Words
+pub mod Commands
 pub mod Endings
 pub mod Inputs
 pub mod Show
-pub mod Commands
+pub mod Causes
+pub mod Loading
+pub mod Pipe

@@ -12,7 +12,7 @@ use Rattle.auth_io.specs.Causes.{Rose}
 use Rattle.authd.specs.Endings.{Ending}
 use Rattle.authd.specs.Inputs.{IsWhole}
 use Rattle.authd.specs.declared.failure.Failure.{Failure}
-use Rattle.authd.specs.declared.failure.Failure.TheVariants.{Usage, TooLong, NotGrammar, Twice, ReadFault, WriteFault, OutOfMemory}
+use Rattle.authd.specs.declared.failure.Failure.TheVariants.{Usage, TooLong, NotGrammar, Twice, StoreAbsent, SpacesAbsent, FileTooLong, NotBuilt, ReadFault, WriteFault, RandomFault, FileFault, Truncated, Worn, OutOfMemory}
 
 -- the text of a field: its lines, each ended by LF or CR LF, with a comma between each two (RFC 9110 section 5.3)
 abbrev pub field_text : List ℕ → List ℕ
@@ -29,6 +29,14 @@ IsShown input (Err Usage) = ⊥
 IsShown input (Err TooLong) = ⊥
 IsShown input (Err (NotGrammar at)) = AnswersChallenges (field_text input) (Err (Grammar.NotGrammar at))
 IsShown input (Err (Twice at)) = (name : List ℕ) × AnswersChallenges (field_text input) (Err (Grammar.Twice at name))
+IsShown input (Err StoreAbsent) = ⊥
+IsShown input (Err SpacesAbsent) = ⊥
+IsShown input (Err FileTooLong) = ⊥
+IsShown input (Err NotBuilt) = ⊥
+IsShown input (Err RandomFault) = ⊥
+IsShown input (Err FileFault) = ⊥
+IsShown input (Err (Truncated at)) = ⊥
+IsShown input (Err Worn) = ⊥
 IsShown input (Err ReadFault) = ⊥
 IsShown input (Err WriteFault) = ⊥
 IsShown input (Err OutOfMemory) = ⊤
@@ -44,6 +52,14 @@ EndsShow input left written written' (Err Usage) = ⊥
 EndsShow input left written written' (Err TooLong) = (length input ≡ 16385) × (written' ≡ written)
 EndsShow input left written written' (Err (NotGrammar at)) = IsWhole input left × IsShown input (Err (NotGrammar at)) × (written' ≡ written)
 EndsShow input left written written' (Err (Twice at)) = IsWhole input left × IsShown input (Err (Twice at)) × (written' ≡ written)
+EndsShow input left written written' (Err StoreAbsent) = ⊥
+EndsShow input left written written' (Err SpacesAbsent) = ⊥
+EndsShow input left written written' (Err FileTooLong) = ⊥
+EndsShow input left written written' (Err NotBuilt) = ⊥
+EndsShow input left written written' (Err RandomFault) = ⊥
+EndsShow input left written written' (Err FileFault) = ⊥
+EndsShow input left written written' (Err (Truncated at)) = ⊥
+EndsShow input left written written' (Err Worn) = ⊥
 EndsShow input left written written' (Err ReadFault) = written' ≡ written
 EndsShow input left written written' (Err WriteFault) = IsWhole input left × WritesFront input written written'
 EndsShow input left written written' (Err OutOfMemory) = (written' ≡ written) ⊎ (IsWhole input left × WritesFront input written written')

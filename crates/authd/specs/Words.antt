@@ -6,6 +6,8 @@ pub data Command : Type 0 where
   -- the words are none that the program knows
   Usage : Command
   Show : Command
+  -- the names of a store and of spaces, and the folder of the files
+  Pipe : List ℕ → List ℕ → List ℕ → Command
 
 -- a word of the command line isn't empty and doesn't begin with `-`
 abbrev pub is_word : List ℕ → Bool
@@ -16,7 +18,10 @@ is_word (b ∷ word) = not (b == 45)
 abbrev pub named : List (List ℕ) → Command
 named [] = Usage
 named (name ∷ []) = if bytes_eq name (codes "show") then Show else Usage
-named (name ∷ word ∷ words) = Usage
+named (name ∷ store ∷ []) = Usage
+named (name ∷ store ∷ spaces ∷ []) = Usage
+named (name ∷ store ∷ spaces ∷ root ∷ []) = if bytes_eq name (codes "pipe") then Pipe store spaces root else Usage
+named (name ∷ store ∷ spaces ∷ root ∷ word ∷ words) = Usage
 
 abbrev pub command_of : List (List ℕ) → Command
 command_of words = if list_all is_word words then named words else Usage

@@ -4,11 +4,20 @@ ghost use Rattle.std.specs.List.{list_all};
 ghost use Rattle.authd.specs.Words.{command_of, is_word};
 ghost use Rattle.authd.specs.Commands.{meaning};
 
+/// Where a site stands: the names of the files of its store and of its spaces, and the folder of its files.
+#[derive(Clone, Copy)]
+pub(crate) struct Place<'w> {
+    pub(crate) store: &'w [u8],
+    pub(crate) spaces: &'w [u8],
+    pub(crate) root: &'w [u8],
+}
+
 /// What the words of the command line ask for.
 #[derive(Clone, Copy)]
-pub(crate) enum Command {
+pub(crate) enum Command<'w> {
     Usage,
     Show,
+    Pipe(Place<'w>),
 }
 
 /// A word isn't empty and doesn't begin with `-`.
@@ -28,7 +37,7 @@ fn are_words(words: &[String]) -> bool
 }
 
 /// The command that these words ask for: its name, and then exactly its words.
-pub(crate) fn command_of(words: &[String]) -> Command
+pub(crate) fn command_of(words: &[String]) -> Command<'_>
     ensures { meaning result ≡ command_of (map string_bytes words.now) }
 {
     if !are_words(words) {
@@ -36,6 +45,13 @@ pub(crate) fn command_of(words: &[String]) -> Command
     }
     match words {
         [name] if name.as_bytes() == b"show".as_slice() => Command::Show,
+        [name, store, spaces, root] if name.as_bytes() == b"pipe".as_slice() => {
+            Command::Pipe(Place {
+                store: store.as_bytes(),
+                spaces: spaces.as_bytes(),
+                root: root.as_bytes(),
+            })
+        }
         _ => Command::Usage,
     }
 }

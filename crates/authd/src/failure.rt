@@ -3,7 +3,10 @@ ghost use Rattle.std.specs.Prelude.{◌≡◌, ◌++◌, ◌∷◌, [], IfOk, On
 ghost use Rattle.authd.specs.Endings.{status_of, line_of, numbered_line};
 
 use auth_grammar::{Octets, OutOfMemory};
+use connection_loop::ServeError;
+use cred_store::StoreError;
 use itoa::Buffer;
+use spaces_map::SpacesError;
 use std::alloc::Global;
 
 /// Why the program ends before its work is done.
@@ -17,10 +20,26 @@ pub enum Failure {
     NotGrammar { at: u32 },
     /// A name comes a second time in one item, behind `at` bytes.
     Twice { at: u32 },
+    /// The file of the store isn't there.
+    StoreAbsent,
+    /// The file of the spaces isn't there.
+    SpacesAbsent,
+    /// A file is longer than 16,777,216 bytes.
+    FileTooLong,
+    /// The text of the store or of the spaces is of a form that isn't read so far.
+    NotBuilt,
     /// A read of the link failed.
     ReadFault,
     /// A write of the link failed.
     WriteFault,
+    /// The source of random words failed.
+    RandomFault,
+    /// A read of a file failed.
+    FileFault,
+    /// The input ended inside the message that begins behind `at` bytes.
+    Truncated { at: u64 },
+    /// The table of nonces takes no more calls.
+    Worn,
     OutOfMemory,
 }
 
@@ -34,6 +53,49 @@ impl From<OutOfMemory> for Failure {
     }
 }
 
+impl From<StoreError> for Failure {
+    ghost use Rattle.authd.specs.Causes.{store_failure};
+
+    ghost from_gives = { λ error failure. failure ≡ store_failure error };
+
+    fn from(error: StoreError) -> Failure {
+        match error {
+            StoreError::NotBuilt => Failure::NotBuilt,
+            StoreError::OutOfMemory => Failure::OutOfMemory,
+        }
+    }
+}
+
+impl From<SpacesError> for Failure {
+    ghost use Rattle.authd.specs.Causes.{spaces_failure};
+
+    ghost from_gives = { λ error failure. failure ≡ spaces_failure error };
+
+    fn from(error: SpacesError) -> Failure {
+        match error {
+            SpacesError::NotBuilt => Failure::NotBuilt,
+            SpacesError::OutOfMemory => Failure::OutOfMemory,
+        }
+    }
+}
+
+impl From<ServeError> for Failure {
+    ghost use Rattle.authd.specs.Causes.{serve_failure};
+
+    ghost from_gives = { λ error failure. failure ≡ serve_failure error };
+
+    fn from(error: ServeError) -> Failure {
+        match error {
+            ServeError::Truncated { at } => Failure::Truncated { at },
+            ServeError::ReadFault => Failure::ReadFault,
+            ServeError::WriteFault => Failure::WriteFault,
+            ServeError::RandomFault => Failure::RandomFault,
+            ServeError::Worn { .. } => Failure::Worn,
+            ServeError::OutOfMemory => Failure::OutOfMemory,
+        }
+    }
+}
+
 impl Failure {
     /// The exit status.
     pub fn status(self) -> u8
@@ -41,8 +103,19 @@ impl Failure {
     {
         match self {
             Failure::Usage => 2,
-            Failure::TooLong | Failure::NotGrammar { .. } | Failure::Twice { .. } => 3,
-            Failure::ReadFault | Failure::WriteFault => 4,
+            Failure::TooLong
+            | Failure::NotGrammar { .. }
+            | Failure::Twice { .. }
+            | Failure::StoreAbsent
+            | Failure::SpacesAbsent
+            | Failure::FileTooLong
+            | Failure::NotBuilt => 3,
+            Failure::ReadFault
+            | Failure::WriteFault
+            | Failure::RandomFault
+            | Failure::FileFault => 4,
+            Failure::Truncated { .. } => 5,
+            Failure::Worn => 6,
             Failure::OutOfMemory => 7,
         }
     }
@@ -56,9 +129,17 @@ impl Failure {
             Failure::TooLong => Octets::of(alloc, b"too long\n"),
             Failure::NotGrammar { at } => numbered_line(alloc, b"not grammar at ", at as u64),
             Failure::Twice { at } => numbered_line(alloc, b"twice at ", at as u64),
-            Failure::ReadFault | Failure::WriteFault | Failure::OutOfMemory => {
-                Ok(Octets::new(alloc))
-            }
+            Failure::StoreAbsent => Octets::of(alloc, b"store absent\n"),
+            Failure::SpacesAbsent => Octets::of(alloc, b"spaces absent\n"),
+            Failure::FileTooLong => Octets::of(alloc, b"file too long\n"),
+            Failure::NotBuilt => Octets::of(alloc, b"not built\n"),
+            Failure::Truncated { at } => numbered_line(alloc, b"truncated at ", at),
+            Failure::ReadFault
+            | Failure::WriteFault
+            | Failure::RandomFault
+            | Failure::FileFault
+            | Failure::Worn
+            | Failure::OutOfMemory => Ok(Octets::new(alloc)),
         }
     }
 }

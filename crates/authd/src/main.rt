@@ -4,9 +4,13 @@
 mod command;
 mod failure;
 mod input;
+mod loading;
+mod pipe;
 mod printing;
 mod run;
 mod show;
+#[cfg(test)]
+mod tests;
 
 use crate::run::run;
 use auth_io::{DiskFiles, OsWords, StdLink, SystemClock};

@@ -1,13 +1,17 @@
 //! All of the program that waits for nobody.
-ghost use Rattle.std.specs.Prelude.{◌≡◌, ◌≤◌, Err, map, string_bytes};
+ghost use Rattle.std.specs.Prelude.{◌≡◌, ◌≤◌, ℕ, List, Err, map, string_bytes};
 ghost use Rattle.authd.specs.Words.{command_of};
 ghost use Rattle.authd.specs.Words as asks;
 ghost use Rattle.authd.specs.Endings.{Ending, Reports};
 ghost use Rattle.authd.specs.Show.{Shows};
 ghost use Rattle.auth_io.specs.Causes.{Rose};
+ghost use Rattle.connection_loop.specs.Account.{link_of};
+ghost use Rattle.authd.specs.Loading.{files_view};
+ghost use Rattle.authd.specs.Pipe.{Pipes, objects, views};
 
 use crate::command::{Command, command_of};
 use crate::failure::Failure;
+use crate::pipe::pipe;
 use crate::printing::tell;
 use crate::show::show;
 use auth_grammar::OutOfMemory;
@@ -34,6 +38,12 @@ pub fn run<L: Link, F: Files, C: Clock, W: Words, D: Sink>(
         × (ending ≡ Err Failure.ReadFault → Rose (L.read_faults link.old) (L.read_faults link.new))
         × (ending ≡ Err Failure.WriteFault → Rose (L.write_faults link.old) (L.write_faults link.new)))
         × (files.new ≡ files.old) × (clock.new ≡ clock.old) × (random.new ≡ random.old) }
+    ensures pipe { (store spaces root : List ℕ) → command_of (map string_bytes words.now.items) ≡ asks.Pipe store spaces root →
+        let v = views (link_of L.left L.given L.written L.reads) (files_view F.contents F.asked F.faults) C.shown W.faults in
+        (ending : Ending) × Pipes v store spaces root (objects link.old files.old clock.old random.old) (objects link.new files.new clock.new random.new) ending
+        × Reports ending (D.written diag.old) (D.written diag.new) (D.faults diag.old) (D.faults diag.new) result
+        × (ending ≡ Err Failure.ReadFault → Rose (L.read_faults link.old) (L.read_faults link.new))
+        × (ending ≡ Err Failure.WriteFault → Rose (L.write_faults link.old) (L.write_faults link.new)) }
 {
     let ending = perform(alloc, words.as_slice(), link, files, clock, random);
     report(alloc, ending, diag)
@@ -56,13 +66,16 @@ fn perform<L: Link, F: Files, C: Clock, W: Words>(
         × (result ≡ Err Failure.ReadFault → Rose (L.read_faults link.old) (L.read_faults link.new))
         × (result ≡ Err Failure.WriteFault → Rose (L.write_faults link.old) (L.write_faults link.new))
         × (files.new ≡ files.old) × (clock.new ≡ clock.old) × (random.new ≡ random.old) }
+    ensures pipe { (store spaces root : List ℕ) → command_of (map string_bytes words.now) ≡ asks.Pipe store spaces root →
+        let v = views (link_of L.left L.given L.written L.reads) (files_view F.contents F.asked F.faults) C.shown W.faults in
+        Pipes v store spaces root (objects link.old files.old clock.old random.old) (objects link.new files.new clock.new random.new) result
+        × (result ≡ Err Failure.ReadFault → Rose (L.read_faults link.old) (L.read_faults link.new))
+        × (result ≡ Err Failure.WriteFault → Rose (L.write_faults link.old) (L.write_faults link.new)) }
 {
-    let _ = files;
-    let _ = clock;
-    let _ = random;
     match command_of(words) {
         Command::Usage => Err(Failure::Usage),
         Command::Show => show(alloc, link),
+        Command::Pipe(place) => pipe(alloc, &place, link, files, clock, random),
     }
 }
 
@@ -79,7 +92,7 @@ fn report<D: Sink>(alloc: Global, ending: Result<(), Failure>, diag: &mut D) -> 
     }
 }
 
-ghost use Rattle.std.specs.Prelude.{ℕ, OnOk, OnErr, take};
+ghost use Rattle.std.specs.Prelude.{OnOk, OnErr, take};
 ghost use Rattle.std.specs.Io.KnownBytes.{Appends};
 ghost use Rattle.authd.specs.Endings.{Tells, line_of};
 

@@ -1,0 +1,71 @@
+-- What `pipe` does: it reads a site, and serves one connection by it.
+use Rattle.std.specs.Prelude.{◌≡◌, ◌⊎◌, ℕ, List, [], Option, Result, Ok, Err}
+use Rattle.std.specs.List.{All}
+use Rattle.auth_decide.specs.declared.site.Site.{Site}
+use Rattle.connection_loop.specs.Account.{LinkState}
+use Rattle.connection_loop.specs.Results.{ServesSession}
+use Rattle.connection_loop.specs.declared.served.ServeError.{ServeError}
+use Rattle.connection_loop.specs.declared.served.Served.{Served}
+use Rattle.nonce_shard.specs.Journal.{Journal, seat_of}
+use Rattle.nonce_shard.specs.Sizes.{single_sizes}
+use Rattle.origin_core.specs.Serving.{IsReply, LackCause, origin}
+use Rattle.authd.specs.Causes.{serve_failure}
+use Rattle.authd.specs.Endings.{Ending}
+use Rattle.authd.specs.Loading.{FilesView, LoadsSite}
+use Rattle.authd.specs.declared.failure.Failure.{Failure}
+use Rattle.authd.specs.declared.failure.Failure.TheVariants.{OutOfMemory}
+
+-- ---- the outside of the program
+
+-- a link, files, a clock and a source of random words
+pub record Objects (L F C W : Type 0) : Type 0 where
+  pub link : L
+  pub files : F
+  pub clock : C
+  pub random : W
+
+abbrev pub objects : {L F C W : Type 0} → L → F → C → W → Objects L F C W
+objects link files clock random = record { link = link; files = files; clock = clock; random = random }
+
+-- what they tell
+pub record Views (L F C W : Type 0) : Type 0 where
+  pub link : L → LinkState
+  pub files : F → FilesView
+  pub shown : C → Option (List ℕ)
+  pub word_faults : W → ℕ
+
+abbrev pub views : {L F C W : Type 0} → (L → LinkState) → (F → FilesView) → (C → Option (List ℕ)) → (W → ℕ) → Views L F C W
+views link files shown word_faults = record { link = link; files = files; shown = shown; word_faults = word_faults }
+
+-- ---- the connection
+
+-- a table of one shard that takes 12,288 calls, which is three for each of 4,096 requests
+abbrev pub fresh_table : Journal
+fresh_table = record { sizes = single_sizes; limit = 12288; calls = [] }
+
+-- what was read, written and shown is the session of the site
+abbrev pub ServesBy : {L F C W : Type 0} → Views L F C W → Site → Objects L F C W → Objects L F C W → Journal → Journal → Result Served ServeError → Type 0
+ServesBy v site before now table table' served =
+    ServesSession origin (λ lack ask. LackCause (v.word_faults before.random) (v.word_faults now.random) (seat_of table') lack) (λ events. All (IsReply site) events)
+    (v.link before.link) (v.link now.link) (v.shown before.clock) (v.shown now.clock) tt tt served
+
+abbrev pub ending_of : Result Served ServeError → Ending
+ending_of (Ok served) = Ok tt
+ending_of (Err error) = Err (serve_failure error)
+
+-- A connection is served over a fresh table, where there is memory for one.
+abbrev pub ServesSite : {L F C W : Type 0} → Views L F C W → Site → Objects L F C W → Objects L F C W → Ending → Type 0
+ServesSite v site before now ending =
+    ((ending ≡ Err OutOfMemory) × (now ≡ before))
+    ⊎ ((table : Journal) × (served : Result Served ServeError) × ServesBy v site before now fresh_table table served × (ending ≡ ending_of served))
+
+-- Without a site nothing is served.
+abbrev pub ServesLoaded : {L F C W : Type 0} → Views L F C W → Result Site Failure → Objects L F C W → Objects L F C W → Ending → Type 0
+ServesLoaded v (Err failure) before now ending = (ending ≡ Err failure) × (now ≡ before)
+ServesLoaded v (Ok site) before now ending = ServesSite v site before now ending
+
+-- The site is read first, which changes no more than what the files tell of it.
+abbrev pub Pipes : {L F C W : Type 0} → Views L F C W → List ℕ → List ℕ → List ℕ → Objects L F C W → Objects L F C W → Ending → Type 0
+Pipes {F = F} v store spaces root before now ending =
+    (files : F) × (site : Result Site Failure) × LoadsSite (v.files) (before.files) files store spaces root site
+    × ServesLoaded v site (objects before.link files before.clock before.random) now ending

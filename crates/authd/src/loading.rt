@@ -1,0 +1,73 @@
+//! Reading a site from its files.
+ghost use Rattle.std.specs.Prelude.{◌≡◌};
+ghost use Rattle.auth_io.specs.declared.files.FileAnswer.{FileAnswer as Answer};
+ghost use Rattle.authd.specs.Loading.{IsSpaces, IsStore, LoadsSite, ReadsFile, files_view, text_in};
+
+use crate::command::Place;
+use crate::failure::Failure;
+use auth_decide::Site;
+use auth_grammar::Octets;
+use auth_io::{FileAnswer, Files};
+use cred_store::Store;
+use spaces_map::Spaces;
+use std::alloc::Global;
+
+/// How many bytes a file may have.
+const FILE_LIMIT: u64 = 16_777_216;
+
+/// The text in an answer, or why there is none.
+fn text_in(absent: Failure, answer: FileAnswer) -> Result<Octets, Failure>
+    ensures { result ≡ text_in absent answer }
+{
+    match answer {
+        FileAnswer::Found(text) => Ok(text),
+        FileAnswer::Absent => Err(absent),
+        FileAnswer::TooLarge => Err(Failure::FileTooLong),
+        FileAnswer::Failed => Err(Failure::FileFault),
+        FileAnswer::OutOfMemory => Err(Failure::OutOfMemory),
+    }
+}
+
+/// The text of a file, where it is there.
+fn text_of<F: Files>(files: &mut F, name: &[u8], absent: Failure) -> Result<Octets, Failure>
+    ensures { let at = files_view F.contents F.asked F.faults in
+        (answer : Answer) × ReadsFile (at files.old) (at files.new) name.now answer × (result ≡ text_in absent answer) }
+{
+    text_in(absent, files.read(name, FILE_LIMIT))
+}
+
+/// The store in a file.
+fn store_of<F: Files>(alloc: Global, files: &mut F, name: &[u8]) -> Result<Store, Failure>
+    ensures { let at = files_view F.contents F.asked F.faults in
+        (answer : Answer) × ReadsFile (at files.old) (at files.new) name.now answer × IsStore (text_in Failure.StoreAbsent answer) result }
+{
+    let text = text_of(files, name, Failure::StoreAbsent)?;
+    Ok(Store::read(alloc, text.bytes())?)
+}
+
+/// The spaces in a file.
+fn spaces_of<F: Files>(alloc: Global, files: &mut F, name: &[u8]) -> Result<Spaces, Failure>
+    ensures { let at = files_view F.contents F.asked F.faults in
+        (answer : Answer) × ReadsFile (at files.old) (at files.new) name.now answer × IsSpaces (text_in Failure.SpacesAbsent answer) result }
+{
+    let text = text_of(files, name, Failure::SpacesAbsent)?;
+    Ok(Spaces::read(alloc, text.bytes())?)
+}
+
+/// The site at a place. The file of the spaces is read once the text of the store was.
+pub(crate) fn site_of<F: Files>(
+    alloc: Global,
+    files: &mut F,
+    place: &Place<'_>,
+) -> Result<Site, Failure>
+    ensures { LoadsSite (files_view F.contents F.asked F.faults) files.old files.new place.now.store.now place.now.spaces.now place.now.root.now result }
+{
+    let store = store_of(alloc, files, place.store)?;
+    let spaces = spaces_of(alloc, files, place.spaces)?;
+    let root = Octets::of(alloc, place.root)?;
+    Ok(Site {
+        store,
+        spaces,
+        root,
+    })
+}

@@ -1,0 +1,66 @@
+//! The command `pipe`: one connection is served.
+ghost use Rattle.std.specs.Prelude.{◌≡◌, ◌≤◌, ℕ, Err, IfOk, IfErr};
+ghost use Rattle.auth_io.specs.Causes.{Rose};
+ghost use Rattle.connection_loop.specs.Account.{link_of};
+ghost use Rattle.authd.specs.Loading.{files_view};
+ghost use Rattle.authd.specs.Pipe.{Pipes, ServesSite, fresh_table, objects, views};
+
+use crate::command::Place;
+use crate::failure::Failure;
+use crate::loading::site_of;
+use auth_decide::Site;
+use auth_io::{Clock, Files, Link, Words};
+use nonce_shard::{JournalTable, Sizes};
+use origin_core::serve_connection;
+use std::alloc::Global;
+
+/// How many calls the table of a connection takes: three for each of 4,096 requests.
+const TABLE_CALLS: u32 = 12_288;
+
+/// Serves one connection by the site at a place.
+pub(crate) fn pipe<L: Link, F: Files, C: Clock, W: Words>(
+    alloc: Global,
+    place: &Place<'_>,
+    link: &mut L,
+    files: &mut F,
+    clock: &mut C,
+    random: &mut W,
+) -> Result<(), Failure>
+    ensures pipes { let v = views (link_of L.left L.given L.written L.reads) (files_view F.contents F.asked F.faults) C.shown W.faults in
+        Pipes v place.now.store.now place.now.spaces.now place.now.root.now (objects link.old files.old clock.old random.old) (objects link.new files.new clock.new random.new) result }
+    ensures read_fault { result ≡ Err Failure.ReadFault → Rose (L.read_faults link.old) (L.read_faults link.new) }
+    ensures write_fault { result ≡ Err Failure.WriteFault → Rose (L.write_faults link.old) (L.write_faults link.new) }
+{
+    let site = site_of(alloc, files, place)?;
+    serve(alloc, &site, link, files, clock, random)
+}
+
+/// A table for one connection.
+fn open_table(alloc: Global) -> Result<JournalTable, Failure>
+    ensures ok { IfOk result (λ table. table ≡ fresh_table) }
+    ensures err { IfErr result (λ failure. failure ≡ Failure.OutOfMemory) }
+{
+    match JournalTable::open(alloc, TABLE_CALLS, &Sizes::single()) {
+        Ok(table) => Ok(table),
+        Err(_) => Err(Failure::OutOfMemory),
+    }
+}
+
+/// Serves one connection by a site.
+fn serve<L: Link, F: Files, C: Clock, W: Words>(
+    alloc: Global,
+    site: &Site,
+    link: &mut L,
+    files: &mut F,
+    clock: &mut C,
+    random: &mut W,
+) -> Result<(), Failure>
+    ensures serves { let v = views (link_of L.left L.given L.written L.reads) (files_view F.contents F.asked F.faults) C.shown W.faults in
+        ServesSite v site.now (objects link.old files.old clock.old random.old) (objects link.new files.new clock.new random.new) result }
+    ensures read_fault { result ≡ Err Failure.ReadFault → Rose (L.read_faults link.old) (L.read_faults link.new) }
+    ensures write_fault { result ≡ Err Failure.WriteFault → Rose (L.write_faults link.old) (L.write_faults link.new) }
+{
+    let mut table = open_table(alloc)?;
+    serve_connection(alloc, link, files, clock, random, &mut table, site)?;
+    Ok(())
+}
