@@ -110,10 +110,8 @@ impl Failure {
             | Failure::SpacesAbsent
             | Failure::FileTooLong
             | Failure::NotBuilt => 3,
-            Failure::ReadFault
-            | Failure::WriteFault
-            | Failure::RandomFault
-            | Failure::FileFault => 4,
+            Failure::ReadFault | Failure::WriteFault | Failure::RandomFault | Failure::FileFault =>
+                4,
             Failure::Truncated { .. } => 5,
             Failure::Worn => 6,
             Failure::OutOfMemory => 7,

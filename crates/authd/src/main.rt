@@ -15,9 +15,8 @@ mod tests;
 use crate::run::run;
 use auth_io::{DiskFiles, OsWords, StdLink, SystemClock};
 use std::alloc::Global;
-use std::env;
-use std::io;
 use std::process::ExitCode;
+use std::{env, io};
 
 /// The words of the command line, without the program's name. Where the system doesn't give them as text there are none.
 fn words_of(rt: &HostRuntime, alloc: Global) -> Vec<String> {
