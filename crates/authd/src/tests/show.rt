@@ -63,7 +63,7 @@ fn show_prints_the_items_of_its_lines(rt: HostRuntime) -> Result<(), Fail> {
         let (input, status, output, told) = columns(row);
         let input = cell(alloc, input)?;
         let (output, told) = (cell(alloc, output)?, cell(alloc, told)?);
-        for piece in 0..=input.len() as u32 % 128 {
+        for piece in 0..=(input.len() % 128) as u32 {
             let ran = shown(alloc, input.bytes(), piece, NONE)?;
             check(&rt, &ran, digit(status), output.bytes(), told.bytes(), row);
         }
