@@ -6,20 +6,22 @@ use Rattle.cred_store.specs.declared.store.StoreError.TheVariants as store
 use Rattle.spaces_map.specs.declared.spaces.SpacesError.{SpacesError}
 use Rattle.spaces_map.specs.declared.spaces.SpacesError.TheVariants as spaces
 use Rattle.authd.specs.declared.failure.Failure.{Failure}
-use Rattle.authd.specs.declared.failure.Failure.TheVariants.{NotBuilt, ReadFault, WriteFault, RandomFault, Truncated, Worn, OutOfMemory}
+use Rattle.authd.specs.declared.failure.Failure.TheVariants as failure
+use Rattle.authd.specs.declared.failure.Fault.TheVariants as fault
+use Rattle.authd.specs.declared.failure.Refusal.TheVariants as refusal
 
 abbrev pub store_failure : StoreError → Failure
-store_failure store.NotBuilt = NotBuilt
-store_failure store.OutOfMemory = OutOfMemory
+store_failure store.NotBuilt = failure.Refused refusal.NotBuilt
+store_failure store.OutOfMemory = failure.OutOfMemory
 
 abbrev pub spaces_failure : SpacesError → Failure
-spaces_failure spaces.NotBuilt = NotBuilt
-spaces_failure spaces.OutOfMemory = OutOfMemory
+spaces_failure spaces.NotBuilt = failure.Refused refusal.NotBuilt
+spaces_failure spaces.OutOfMemory = failure.OutOfMemory
 
 abbrev pub serve_failure : ServeError → Failure
-serve_failure (served.Truncated at) = Truncated at
-serve_failure served.ReadFault = ReadFault
-serve_failure served.WriteFault = WriteFault
-serve_failure served.RandomFault = RandomFault
-serve_failure (served.Worn calls) = Worn
-serve_failure served.OutOfMemory = OutOfMemory
+serve_failure (served.Truncated at) = failure.Truncated at
+serve_failure served.ReadFault = failure.Fault fault.Read
+serve_failure served.WriteFault = failure.Fault fault.Write
+serve_failure served.RandomFault = failure.Fault fault.Draw
+serve_failure (served.Worn calls) = failure.Worn
+serve_failure served.OutOfMemory = failure.OutOfMemory

@@ -2,50 +2,48 @@
 use Rattle.std.specs.Prelude.{◌≡◌, ◌⊎◌, ℕ, ⊤, List, [], ◌∷◌, ◌++◌, take, Option, Result, Ok, Err, codes, decimal}
 use Rattle.std.specs.Io.KnownBytes.{Appends}
 use Rattle.auth_io.specs.Causes.{Rose}
+use Rattle.authd.specs.Outside.{Objects, Views, IsUntouched}
 use Rattle.authd.specs.declared.failure.Failure.{Failure}
-use Rattle.authd.specs.declared.failure.Failure.TheVariants.{Usage, TooLong, NotGrammar, Twice, StoreAbsent, SpacesAbsent, FileTooLong, NotBuilt, ReadFault, WriteFault, RandomFault, FileFault, Truncated, Worn, OutOfMemory}
+use Rattle.authd.specs.declared.failure.Failure.TheVariants as failure
+use Rattle.authd.specs.declared.failure.Fault.{Fault}
+use Rattle.authd.specs.declared.failure.Fault.TheVariants as fault
+use Rattle.authd.specs.declared.failure.Refusal.{Refusal}
+use Rattle.authd.specs.declared.failure.Refusal.TheVariants as refusal
 
 abbrev pub Ending : Type 0
 Ending = Result (Unit {0}) Failure
 
+-- ---- what is told
+
 abbrev pub status_of : Failure → ℕ
-status_of Usage = 2
-status_of TooLong = 3
-status_of (NotGrammar at) = 3
-status_of (Twice at) = 3
-status_of StoreAbsent = 3
-status_of SpacesAbsent = 3
-status_of FileTooLong = 3
-status_of NotBuilt = 3
-status_of ReadFault = 4
-status_of WriteFault = 4
-status_of RandomFault = 4
-status_of FileFault = 4
-status_of (Truncated at) = 5
-status_of Worn = 6
-status_of OutOfMemory = 7
+status_of failure.Usage = 2
+status_of (failure.Refused refusal) = 3
+status_of (failure.Fault fault) = 4
+status_of (failure.Truncated at) = 5
+status_of failure.Worn = 6
+status_of failure.OutOfMemory = 7
 
 -- words and a number on a line
 abbrev pub numbered_line : List ℕ → ℕ → List ℕ
 numbered_line words number = words ++ decimal number ++ 10 ∷ []
 
+abbrev pub refusal_line : Refusal → List ℕ
+refusal_line refusal.TooLong = codes "too long\n"
+refusal_line (refusal.NotGrammar at) = numbered_line (codes "not grammar at ") at
+refusal_line (refusal.Twice at) = numbered_line (codes "twice at ") at
+refusal_line refusal.StoreAbsent = codes "store absent\n"
+refusal_line refusal.SpacesAbsent = codes "spaces absent\n"
+refusal_line refusal.FileTooLong = codes "file too long\n"
+refusal_line refusal.NotBuilt = codes "not built\n"
+
 -- what is said of a failure, a line or nothing
 abbrev pub line_of : Failure → List ℕ
-line_of Usage = codes "usage: authd COMMAND WORDS\n"
-line_of TooLong = codes "too long\n"
-line_of (NotGrammar at) = numbered_line (codes "not grammar at ") at
-line_of (Twice at) = numbered_line (codes "twice at ") at
-line_of StoreAbsent = codes "store absent\n"
-line_of SpacesAbsent = codes "spaces absent\n"
-line_of FileTooLong = codes "file too long\n"
-line_of NotBuilt = codes "not built\n"
-line_of ReadFault = []
-line_of WriteFault = []
-line_of RandomFault = []
-line_of FileFault = []
-line_of (Truncated at) = numbered_line (codes "truncated at ") at
-line_of Worn = []
-line_of OutOfMemory = []
+line_of failure.Usage = codes "usage: authd COMMAND WORDS\n"
+line_of (failure.Refused refusal) = refusal_line refusal
+line_of (failure.Fault fault) = []
+line_of (failure.Truncated at) = numbered_line (codes "truncated at ") at
+line_of failure.Worn = []
+line_of failure.OutOfMemory = []
 
 -- The text was written whole, or a front of it up to a write that failed.
 abbrev pub Tells : Option (List ℕ) → Option (List ℕ) → ℕ → ℕ → List ℕ → Type 0
@@ -60,18 +58,28 @@ Reports (Err failure) written written' faults faults' status =
 
 -- why a text was not printed whole
 abbrev pub IsPrintFailure : Failure → Type 0
-IsPrintFailure Usage = ⊥
-IsPrintFailure TooLong = ⊥
-IsPrintFailure (NotGrammar at) = ⊥
-IsPrintFailure (Twice at) = ⊥
-IsPrintFailure StoreAbsent = ⊥
-IsPrintFailure SpacesAbsent = ⊥
-IsPrintFailure FileTooLong = ⊥
-IsPrintFailure NotBuilt = ⊥
-IsPrintFailure ReadFault = ⊥
-IsPrintFailure RandomFault = ⊥
-IsPrintFailure FileFault = ⊥
-IsPrintFailure (Truncated at) = ⊥
-IsPrintFailure Worn = ⊥
-IsPrintFailure WriteFault = ⊤
-IsPrintFailure OutOfMemory = ⊤
+IsPrintFailure (failure.Fault fault.Write) = ⊤
+IsPrintFailure failure.OutOfMemory = ⊤
+IsPrintFailure failure = ⊥
+
+-- ---- what a failure says of the outside
+
+-- its count has risen
+abbrev pub FaultRose : {L F C W : Type 0} → Views L F C W → Objects L F C W → Objects L F C W → Fault → Type 0
+FaultRose v before now fault.Read = Rose (v.read_faults before.link) (v.read_faults now.link)
+FaultRose v before now fault.Write = Rose (v.write_faults before.link) (v.write_faults now.link)
+FaultRose v before now fault.File = Rose ((v.files before.files).faults) ((v.files now.files).faults)
+FaultRose v before now fault.Draw = Rose (v.word_faults before.random) (v.word_faults now.random)
+
+-- At a refusal nothing was written, and no file changed. A fault has its cause.
+abbrev pub FailureSays : {L F C W : Type 0} → Views L F C W → Objects L F C W → Objects L F C W → Failure → Type 0
+FailureSays v before now failure.Usage = IsUntouched v before now
+FailureSays v before now (failure.Refused refusal) = IsUntouched v before now
+FailureSays v before now (failure.Fault fault) = FaultRose v before now fault
+FailureSays v before now (failure.Truncated at) = ⊤
+FailureSays v before now failure.Worn = ⊤
+FailureSays v before now failure.OutOfMemory = ⊤
+
+-- the statuses of refusals
+abbrev pub IsRefusal : ℕ → Type 0
+IsRefusal status = (status ≡ 2) ⊎ (status ≡ 3)

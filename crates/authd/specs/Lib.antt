@@ -1,8 +1,10 @@
 pub mod Words
 pub mod Commands
+pub mod Outside
 pub mod Endings
 pub mod Inputs
 pub mod Show
 pub mod Causes
 pub mod Loading
 pub mod Pipe
+pub mod Run

@@ -1,9 +1,8 @@
 -- Reading a site from its files: the store first, and the spaces where the store was read.
-use Rattle.std.specs.Prelude.{◌≡◌, ◌≢◌, ℕ, ⊤, true, List, [], ◌∷◌, Option, Result, Ok, Err}
+use Rattle.std.specs.Prelude.{◌≡◌, ◌≢◌, ℕ, ⊤, true, List, [], ◌∷◌, Result, Ok, Err}
 use Rattle.auth_decide.specs.declared.site.Site.{Site}
 use Rattle.auth_grammar.specs.Plain.{is_plain_name}
-use Rattle.auth_io.specs.Files.{Contents, ReadAnswers, AddsAsked, read_entry, ReadRose}
-use Rattle.auth_io.specs.declared.files.Ending.{Ending}
+use Rattle.auth_io.specs.Files.{ReadAnswers, AddsAsked, read_entry, ReadRose}
 use Rattle.auth_io.specs.declared.files.FileAnswer.{FileAnswer}
 use Rattle.auth_io.specs.declared.files.FileAnswer.TheVariants as file
 use Rattle.cred_store.specs.Texts.{IsEntry, store_text}
@@ -16,18 +15,13 @@ use Rattle.spaces_map.specs.declared.spaces.SpacesError.{SpacesError}
 use Rattle.spaces_map.specs.declared.spaces.SpacesError.TheVariants as spaces
 use Rattle.authd.specs.Causes.{store_failure, spaces_failure}
 use Rattle.authd.specs.declared.failure.Failure.{Failure}
-use Rattle.authd.specs.declared.failure.Failure.TheVariants.{StoreAbsent, SpacesAbsent, FileTooLong, FileFault, OutOfMemory}
+use Rattle.authd.specs.declared.failure.Failure.TheVariants as failure
+use Rattle.authd.specs.declared.failure.Fault.TheVariants as fault
+use Rattle.authd.specs.declared.failure.Refusal.{Refusal}
+use Rattle.authd.specs.declared.failure.Refusal.TheVariants as refusal
+use Rattle.authd.specs.Outside.{FilesView}
 
 -- ---- one file
-
--- files at one moment, as far as they tell
-pub record FilesView : Type 0 where
-  pub contents : Option Contents
-  pub asked : Option (List (List ℕ × Ending))
-  pub faults : ℕ
-
-abbrev pub files_view : {F : Type 0} → (F → Option Contents) → (F → Option (List (List ℕ × Ending))) → (F → ℕ) → F → FilesView
-files_view contents asked faults files = record { contents = contents files; asked = asked files; faults = faults files }
 
 -- one file was read, of at most 16,777,216 bytes, with this answer
 pub record ReadsFile (before now : FilesView) (name : List ℕ) (answer : FileAnswer) : Type 0 where
@@ -37,12 +31,12 @@ pub record ReadsFile (before now : FilesView) (name : List ℕ) (answer : FileAn
   pub faults : ReadRose answer before.faults now.faults
 
 -- the text in an answer, or why there is none
-abbrev pub text_in : Failure → FileAnswer → Result (List ℕ) Failure
+abbrev pub text_in : Refusal → FileAnswer → Result (List ℕ) Failure
 text_in absent (file.Found text) = Ok text
-text_in absent file.Absent = Err absent
-text_in absent file.TooLarge = Err FileTooLong
-text_in absent file.Failed = Err FileFault
-text_in absent file.OutOfMemory = Err OutOfMemory
+text_in absent file.Absent = Err (failure.Refused absent)
+text_in absent file.TooLarge = Err (failure.Refused refusal.FileTooLong)
+text_in absent file.Failed = Err (failure.Fault fault.File)
+text_in absent file.OutOfMemory = Err failure.OutOfMemory
 
 -- ---- the two texts
 
@@ -60,33 +54,33 @@ ReadsSpaces text (Err spaces.OutOfMemory) = ⊤
 
 -- the store in a text, or why there is none
 abbrev pub IsStore : Result (List ℕ) Failure → Result (List Entry) Failure → Type 0
-IsStore (Err failure) result = result ≡ Err failure
+IsStore (Err other) result = result ≡ Err other
 IsStore (Ok text) (Ok entries) = ReadsStore text (Ok entries)
-IsStore (Ok text) (Err failure) = (error : StoreError) × ReadsStore text (Err error) × (failure ≡ store_failure error)
+IsStore (Ok text) (Err other) = (error : StoreError) × ReadsStore text (Err error) × (other ≡ store_failure error)
 
 -- the spaces in a text, or why there are none
 abbrev pub IsSpaces : Result (List ℕ) Failure → Result (List Space) Failure → Type 0
-IsSpaces (Err failure) result = result ≡ Err failure
+IsSpaces (Err other) result = result ≡ Err other
 IsSpaces (Ok text) (Ok list) = ReadsSpaces text (Ok list)
-IsSpaces (Ok text) (Err failure) = (error : SpacesError) × ReadsSpaces text (Err error) × (failure ≡ spaces_failure error)
+IsSpaces (Ok text) (Err other) = (error : SpacesError) × ReadsSpaces text (Err error) × (other ≡ spaces_failure error)
 
 -- ---- the site
 
 -- a site of what was read
 abbrev pub IsSite : List Entry → Result (List Space) Failure → List ℕ → Result Site Failure → Type 0
-IsSite entries (Err failure) root result = result ≡ Err failure
+IsSite entries (Err other) root result = result ≡ Err other
 IsSite entries (Ok list) root (Ok site) = (site.store ≡ entries) × (site.spaces ≡ list) × (site.root ≡ root)
-IsSite entries (Ok list) root (Err failure) = failure ≡ OutOfMemory
+IsSite entries (Ok list) root (Err other) = other ≡ failure.OutOfMemory
 
 -- Where the store was read, the spaces are.
 abbrev pub LoadsSpaces : {F : Type 0} → (F → FilesView) → F → F → List ℕ → List ℕ → Result (List Entry) Failure → Result Site Failure → Type 0
-LoadsSpaces at before now name root (Err failure) result = (now ≡ before) × (result ≡ Err failure)
+LoadsSpaces at before now name root (Err other) result = (now ≡ before) × (result ≡ Err other)
 LoadsSpaces at before now name root (Ok entries) result =
     (answer : FileAnswer) × ReadsFile (at before) (at now) name answer
-    × (list : Result (List Space) Failure) × IsSpaces (text_in SpacesAbsent answer) list × IsSite entries list root result
+    × (list : Result (List Space) Failure) × IsSpaces (text_in refusal.SpacesAbsent answer) list × IsSite entries list root result
 
 -- a site, by the names of its store and of its spaces, and its root
 abbrev pub LoadsSite : {F : Type 0} → (F → FilesView) → F → F → List ℕ → List ℕ → List ℕ → Result Site Failure → Type 0
 LoadsSite {F} at before now store_name spaces_name root result =
     (middle : F) × (answer : FileAnswer) × ReadsFile (at before) (at middle) store_name answer
-    × (entries : Result (List Entry) Failure) × IsStore (text_in StoreAbsent answer) entries × LoadsSpaces at middle now spaces_name root entries result
+    × (entries : Result (List Entry) Failure) × IsStore (text_in refusal.StoreAbsent answer) entries × LoadsSpaces at middle now spaces_name root entries result

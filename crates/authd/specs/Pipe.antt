@@ -1,8 +1,7 @@
 -- What `pipe` does: it reads a site, and serves one connection by it.
-use Rattle.std.specs.Prelude.{◌≡◌, ◌⊎◌, ℕ, List, [], Option, Result, Ok, Err}
+use Rattle.std.specs.Prelude.{◌≡◌, ◌⊎◌, ℕ, List, [], Result, Ok, Err}
 use Rattle.std.specs.List.{All}
 use Rattle.auth_decide.specs.declared.site.Site.{Site}
-use Rattle.connection_loop.specs.Account.{LinkState}
 use Rattle.connection_loop.specs.Results.{ServesSession}
 use Rattle.connection_loop.specs.declared.served.ServeError.{ServeError}
 use Rattle.connection_loop.specs.declared.served.Served.{Served}
@@ -11,33 +10,10 @@ use Rattle.nonce_shard.specs.Sizes.{single_sizes}
 use Rattle.origin_core.specs.Serving.{IsReply, LackCause, origin}
 use Rattle.authd.specs.Causes.{serve_failure}
 use Rattle.authd.specs.Endings.{Ending}
-use Rattle.authd.specs.Loading.{FilesView, LoadsSite}
+use Rattle.authd.specs.Loading.{LoadsSite}
+use Rattle.authd.specs.Outside.{Objects, Views, objects}
 use Rattle.authd.specs.declared.failure.Failure.{Failure}
-use Rattle.authd.specs.declared.failure.Failure.TheVariants.{OutOfMemory}
-
--- ---- the outside of the program
-
--- a link, files, a clock and a source of random words
-pub record Objects (L F C W : Type 0) : Type 0 where
-  pub link : L
-  pub files : F
-  pub clock : C
-  pub random : W
-
-abbrev pub objects : {L F C W : Type 0} → L → F → C → W → Objects L F C W
-objects link files clock random = record { link = link; files = files; clock = clock; random = random }
-
--- what they tell
-pub record Views (L F C W : Type 0) : Type 0 where
-  pub link : L → LinkState
-  pub files : F → FilesView
-  pub shown : C → Option (List ℕ)
-  pub word_faults : W → ℕ
-
-abbrev pub views : {L F C W : Type 0} → (L → LinkState) → (F → FilesView) → (C → Option (List ℕ)) → (W → ℕ) → Views L F C W
-views link files shown word_faults = record { link = link; files = files; shown = shown; word_faults = word_faults }
-
--- ---- the connection
+use Rattle.authd.specs.declared.failure.Failure.TheVariants as failure
 
 -- a table of one shard that takes 12,288 calls, which is three for each of 4,096 requests
 abbrev pub fresh_table : Journal
@@ -56,12 +32,12 @@ ending_of (Err error) = Err (serve_failure error)
 -- A connection is served over a fresh table, where there is memory for one.
 abbrev pub ServesSite : {L F C W : Type 0} → Views L F C W → Site → Objects L F C W → Objects L F C W → Ending → Type 0
 ServesSite v site before now ending =
-    ((ending ≡ Err OutOfMemory) × (now ≡ before))
+    ((ending ≡ Err failure.OutOfMemory) × (now ≡ before))
     ⊎ ((table : Journal) × (served : Result Served ServeError) × ServesBy v site before now fresh_table table served × (ending ≡ ending_of served))
 
 -- Without a site nothing is served.
 abbrev pub ServesLoaded : {L F C W : Type 0} → Views L F C W → Result Site Failure → Objects L F C W → Objects L F C W → Ending → Type 0
-ServesLoaded v (Err failure) before now ending = (ending ≡ Err failure) × (now ≡ before)
+ServesLoaded v (Err other) before now ending = (ending ≡ Err other) × (now ≡ before)
 ServesLoaded v (Ok site) before now ending = ServesSite v site before now ending
 
 -- The site is read first, which changes no more than what the files tell of it.

@@ -8,11 +8,13 @@ use Rattle.auth_grammar.specs.Writing.{item_text}
 use Rattle.auth_grammar.specs.declared.error.GrammarError.TheVariants as Grammar
 use Rattle.auth_grammar.specs.declared.items.Item.{Item}
 use Rattle.auth_grammar.specs.declared.items.Quoting.TheVariants.{Challenge}
-use Rattle.auth_io.specs.Causes.{Rose}
+use Rattle.connection_loop.specs.Account.{LinkState}
 use Rattle.authd.specs.Endings.{Ending}
 use Rattle.authd.specs.Inputs.{IsWhole}
 use Rattle.authd.specs.declared.failure.Failure.{Failure}
-use Rattle.authd.specs.declared.failure.Failure.TheVariants.{Usage, TooLong, NotGrammar, Twice, StoreAbsent, SpacesAbsent, FileTooLong, NotBuilt, ReadFault, WriteFault, RandomFault, FileFault, Truncated, Worn, OutOfMemory}
+use Rattle.authd.specs.declared.failure.Failure.TheVariants as failure
+use Rattle.authd.specs.declared.failure.Fault.TheVariants as fault
+use Rattle.authd.specs.declared.failure.Refusal.TheVariants as refusal
 
 -- the text of a field: its lines, each ended by LF or CR LF, with a comma between each two (RFC 9110 section 5.3)
 abbrev pub field_text : List ℕ → List ℕ
@@ -25,21 +27,10 @@ item_lines items = flat_map (λ item. item_text Challenge item ++ 10 ∷ []) ite
 -- what is to be written for an input, or why it is refused
 abbrev pub IsShown : List ℕ → Result (List ℕ) Failure → Type 0
 IsShown input (Ok text) = (items : List Item) × AnswersChallenges (field_text input) (Ok items) × (text ≡ item_lines items)
-IsShown input (Err Usage) = ⊥
-IsShown input (Err TooLong) = ⊥
-IsShown input (Err (NotGrammar at)) = AnswersChallenges (field_text input) (Err (Grammar.NotGrammar at))
-IsShown input (Err (Twice at)) = (name : List ℕ) × AnswersChallenges (field_text input) (Err (Grammar.Twice at name))
-IsShown input (Err StoreAbsent) = ⊥
-IsShown input (Err SpacesAbsent) = ⊥
-IsShown input (Err FileTooLong) = ⊥
-IsShown input (Err NotBuilt) = ⊥
-IsShown input (Err RandomFault) = ⊥
-IsShown input (Err FileFault) = ⊥
-IsShown input (Err (Truncated at)) = ⊥
-IsShown input (Err Worn) = ⊥
-IsShown input (Err ReadFault) = ⊥
-IsShown input (Err WriteFault) = ⊥
-IsShown input (Err OutOfMemory) = ⊤
+IsShown input (Err (failure.Refused (refusal.NotGrammar at))) = AnswersChallenges (field_text input) (Err (Grammar.NotGrammar at))
+IsShown input (Err (failure.Refused (refusal.Twice at))) = (name : List ℕ) × AnswersChallenges (field_text input) (Err (Grammar.Twice at name))
+IsShown input (Err failure.OutOfMemory) = ⊤
+IsShown input (Err other) = ⊥
 
 -- the text for an input, or a front of it, was written
 abbrev pub WritesFront : List ℕ → Option (List ℕ) → Option (List ℕ) → Type 0
@@ -48,21 +39,13 @@ WritesFront input written written' = (text : List ℕ) × IsShown input (Ok text
 -- What an ending says of the input and of what was written. Nothing is written of an input that is refused.
 abbrev pub EndsShow : List ℕ → Option (List ℕ) → Option (List ℕ) → Option (List ℕ) → Ending → Type 0
 EndsShow input left written written' (Ok done) = IsWhole input left × (text : List ℕ) × IsShown input (Ok text) × Appends written written' text
-EndsShow input left written written' (Err Usage) = ⊥
-EndsShow input left written written' (Err TooLong) = (length input ≡ 16385) × (written' ≡ written)
-EndsShow input left written written' (Err (NotGrammar at)) = IsWhole input left × IsShown input (Err (NotGrammar at)) × (written' ≡ written)
-EndsShow input left written written' (Err (Twice at)) = IsWhole input left × IsShown input (Err (Twice at)) × (written' ≡ written)
-EndsShow input left written written' (Err StoreAbsent) = ⊥
-EndsShow input left written written' (Err SpacesAbsent) = ⊥
-EndsShow input left written written' (Err FileTooLong) = ⊥
-EndsShow input left written written' (Err NotBuilt) = ⊥
-EndsShow input left written written' (Err RandomFault) = ⊥
-EndsShow input left written written' (Err FileFault) = ⊥
-EndsShow input left written written' (Err (Truncated at)) = ⊥
-EndsShow input left written written' (Err Worn) = ⊥
-EndsShow input left written written' (Err ReadFault) = written' ≡ written
-EndsShow input left written written' (Err WriteFault) = IsWhole input left × WritesFront input written written'
-EndsShow input left written written' (Err OutOfMemory) = (written' ≡ written) ⊎ (IsWhole input left × WritesFront input written written')
+EndsShow input left written written' (Err (failure.Refused refusal.TooLong)) = (length input ≡ 16385) × (written' ≡ written)
+EndsShow input left written written' (Err (failure.Refused refusal)) = IsWhole input left × IsShown input (Err (failure.Refused refusal)) × (written' ≡ written)
+EndsShow input left written written' (Err (failure.Fault fault.Read)) = written' ≡ written
+EndsShow input left written written' (Err (failure.Fault fault.Write)) = IsWhole input left × WritesFront input written written'
+EndsShow input left written written' (Err failure.OutOfMemory) = (written' ≡ written) ⊎ (IsWhole input left × WritesFront input written written')
+EndsShow input left written written' (Err other) = ⊥
 
-abbrev pub Shows : Option (List ℕ) → Option (List ℕ) → Option (List ℕ) → Option (List ℕ) → Ending → Type 0
-Shows left left' written written' ending = (input : List ℕ) × Consumes left left' input × (length input ≤ 16385) × EndsShow input left' written written' ending
+-- An input of at most 16,384 bytes is read to its end, and no more than one byte of a longer one.
+abbrev pub Shows : LinkState → LinkState → Ending → Type 0
+Shows before now ending = (input : List ℕ) × Consumes before.left now.left input × (length input ≤ 16385) × EndsShow input now.left before.written now.written ending

@@ -1,6 +1,6 @@
 //! Why the program ends before its work is done.
 ghost use Rattle.std.specs.Prelude.{◌≡◌, ◌++◌, ◌∷◌, [], IfOk, OnOk, decimal};
-ghost use Rattle.authd.specs.Endings.{status_of, line_of, numbered_line};
+ghost use Rattle.authd.specs.Endings.{line_of, numbered_line, refusal_line, status_of};
 
 use auth_grammar::{Octets, OutOfMemory};
 use connection_loop::ServeError;
@@ -14,6 +14,18 @@ use std::alloc::Global;
 pub enum Failure {
     /// The words of the command line are none that the program knows.
     Usage,
+    Refused(Refusal),
+    Fault(Fault),
+    /// The input ended inside the message that begins behind `at` bytes.
+    Truncated { at: u64 },
+    /// The table of nonces takes no more calls.
+    Worn,
+    OutOfMemory,
+}
+
+/// Why an input or a file is refused.
+#[derive(Clone, Copy, Debug, PartialEq, Eq)]
+pub enum Refusal {
     /// The input is longer than 16,384 bytes.
     TooLong,
     /// The text is not of the grammar: none that is begins with more than its first `at` bytes.
@@ -28,19 +40,19 @@ pub enum Failure {
     FileTooLong,
     /// The text of the store or of the spaces is of a form that isn't read so far.
     NotBuilt,
-    /// A read of the link failed.
-    ReadFault,
-    /// A write of the link failed.
-    WriteFault,
-    /// The source of random words failed.
-    RandomFault,
-    /// A read of a file failed.
-    FileFault,
-    /// The input ended inside the message that begins behind `at` bytes.
-    Truncated { at: u64 },
-    /// The table of nonces takes no more calls.
-    Worn,
-    OutOfMemory,
+}
+
+/// What failed. Its count of faults has risen.
+#[derive(Clone, Copy, Debug, PartialEq, Eq)]
+pub enum Fault {
+    /// A read of the link.
+    Read,
+    /// A write of the link.
+    Write,
+    /// A read of a file.
+    File,
+    /// A draw of random words.
+    Draw,
 }
 
 impl From<OutOfMemory> for Failure {
@@ -60,7 +72,7 @@ impl From<StoreError> for Failure {
 
     fn from(error: StoreError) -> Failure {
         match error {
-            StoreError::NotBuilt => Failure::NotBuilt,
+            StoreError::NotBuilt => Failure::Refused(Refusal::NotBuilt),
             StoreError::OutOfMemory => Failure::OutOfMemory,
         }
     }
@@ -73,7 +85,7 @@ impl From<SpacesError> for Failure {
 
     fn from(error: SpacesError) -> Failure {
         match error {
-            SpacesError::NotBuilt => Failure::NotBuilt,
+            SpacesError::NotBuilt => Failure::Refused(Refusal::NotBuilt),
             SpacesError::OutOfMemory => Failure::OutOfMemory,
         }
     }
@@ -87,9 +99,9 @@ impl From<ServeError> for Failure {
     fn from(error: ServeError) -> Failure {
         match error {
             ServeError::Truncated { at } => Failure::Truncated { at },
-            ServeError::ReadFault => Failure::ReadFault,
-            ServeError::WriteFault => Failure::WriteFault,
-            ServeError::RandomFault => Failure::RandomFault,
+            ServeError::ReadFault => Failure::Fault(Fault::Read),
+            ServeError::WriteFault => Failure::Fault(Fault::Write),
+            ServeError::RandomFault => Failure::Fault(Fault::Draw),
             ServeError::Worn { .. } => Failure::Worn,
             ServeError::OutOfMemory => Failure::OutOfMemory,
         }
@@ -103,15 +115,8 @@ impl Failure {
     {
         match self {
             Failure::Usage => 2,
-            Failure::TooLong
-            | Failure::NotGrammar { .. }
-            | Failure::Twice { .. }
-            | Failure::StoreAbsent
-            | Failure::SpacesAbsent
-            | Failure::FileTooLong
-            | Failure::NotBuilt => 3,
-            Failure::ReadFault | Failure::WriteFault | Failure::RandomFault | Failure::FileFault =>
-                4,
+            Failure::Refused(_) => 3,
+            Failure::Fault(_) => 4,
             Failure::Truncated { .. } => 5,
             Failure::Worn => 6,
             Failure::OutOfMemory => 7,
@@ -124,20 +129,26 @@ impl Failure {
     {
         match self {
             Failure::Usage => Octets::of(alloc, b"usage: authd COMMAND WORDS\n"),
-            Failure::TooLong => Octets::of(alloc, b"too long\n"),
-            Failure::NotGrammar { at } => numbered_line(alloc, b"not grammar at ", at as u64),
-            Failure::Twice { at } => numbered_line(alloc, b"twice at ", at as u64),
-            Failure::StoreAbsent => Octets::of(alloc, b"store absent\n"),
-            Failure::SpacesAbsent => Octets::of(alloc, b"spaces absent\n"),
-            Failure::FileTooLong => Octets::of(alloc, b"file too long\n"),
-            Failure::NotBuilt => Octets::of(alloc, b"not built\n"),
+            Failure::Refused(refusal) => refusal.line(alloc),
             Failure::Truncated { at } => numbered_line(alloc, b"truncated at ", at),
-            Failure::ReadFault
-            | Failure::WriteFault
-            | Failure::RandomFault
-            | Failure::FileFault
-            | Failure::Worn
-            | Failure::OutOfMemory => Ok(Octets::new(alloc)),
+            Failure::Fault(_) | Failure::Worn | Failure::OutOfMemory => Ok(Octets::new(alloc)),
+        }
+    }
+}
+
+impl Refusal {
+    /// The line that tells the refusal.
+    pub fn line(self, alloc: Global) -> Result<Octets, OutOfMemory>
+        ensures { IfOk result (λ line. line ≡ refusal_line self) }
+    {
+        match self {
+            Refusal::TooLong => Octets::of(alloc, b"too long\n"),
+            Refusal::NotGrammar { at } => numbered_line(alloc, b"not grammar at ", at as u64),
+            Refusal::Twice { at } => numbered_line(alloc, b"twice at ", at as u64),
+            Refusal::StoreAbsent => Octets::of(alloc, b"store absent\n"),
+            Refusal::SpacesAbsent => Octets::of(alloc, b"spaces absent\n"),
+            Refusal::FileTooLong => Octets::of(alloc, b"file too long\n"),
+            Refusal::NotBuilt => Octets::of(alloc, b"not built\n"),
         }
     }
 }

@@ -3,7 +3,7 @@ ghost use Rattle.std.specs.Prelude.{◌≡◌, ◌≤◌, Err, length};
 ghost use Rattle.auth_io.specs.Causes.{Rose};
 ghost use Rattle.authd.specs.Inputs.{ReadsInput, ReadsPiece};
 
-use crate::failure::Failure;
+use crate::failure::{Failure, Fault, Refusal};
 use auth_grammar::Octets;
 use auth_io::Link;
 use std::alloc::Global;
@@ -18,13 +18,13 @@ fn read_piece<L: Link>(link: &mut L, input: &mut Octets) -> Result<bool, Failure
     ensures written { L.written link.new ≡ L.written link.old }
     ensures write_faults { L.write_faults link.new ≡ L.write_faults link.old }
     ensures later { L.read_faults link.old ≤ L.read_faults link.new }
-    ensures fault { result ≡ Err Failure.ReadFault → Rose (L.read_faults link.old) (L.read_faults link.new) }
+    ensures fault { result ≡ Err (Failure.Fault Fault.Read) → Rose (L.read_faults link.old) (L.read_faults link.new) }
 {
     let mut piece = [0; 4096];
     let room = (INPUT_LIMIT + 1 - input.len()).min(4096);
     let into = &mut piece[..room];
     let Ok(count) = link.read(into) else {
-        return Err(Failure::ReadFault);
+        return Err(Failure::Fault(Fault::Read));
     };
     input.extend(&into[..count])?;
     Ok(count > 0)
@@ -36,7 +36,7 @@ pub(crate) fn read_input<L: Link>(alloc: Global, link: &mut L) -> Result<Octets,
     ensures written { L.written link.new ≡ L.written link.old }
     ensures write_faults { L.write_faults link.new ≡ L.write_faults link.old }
     ensures later { L.read_faults link.old ≤ L.read_faults link.new }
-    ensures fault { result ≡ Err Failure.ReadFault → Rose (L.read_faults link.old) (L.read_faults link.new) }
+    ensures fault { result ≡ Err (Failure.Fault Fault.Read) → Rose (L.read_faults link.old) (L.read_faults link.new) }
 {
     let mut input = Octets::new(alloc);
     while input.len() <= INPUT_LIMIT {
@@ -44,5 +44,5 @@ pub(crate) fn read_input<L: Link>(alloc: Global, link: &mut L) -> Result<Octets,
             return Ok(input);
         }
     }
-    Err(Failure::TooLong)
+    Err(Failure::Refused(Refusal::TooLong))
 }

@@ -1,10 +1,11 @@
 //! Reading a site from its files.
 ghost use Rattle.std.specs.Prelude.{◌≡◌};
 ghost use Rattle.auth_io.specs.declared.files.FileAnswer.{FileAnswer as Answer};
-ghost use Rattle.authd.specs.Loading.{IsSpaces, IsStore, LoadsSite, ReadsFile, files_view, text_in};
+ghost use Rattle.authd.specs.Loading.{IsSpaces, IsStore, LoadsSite, ReadsFile, text_in};
+ghost use Rattle.authd.specs.Outside.{files_view};
 
 use crate::command::Place;
-use crate::failure::Failure;
+use crate::failure::{Failure, Fault, Refusal};
 use auth_decide::Site;
 use auth_grammar::Octets;
 use auth_io::{FileAnswer, Files};
@@ -16,20 +17,20 @@ use std::alloc::Global;
 const FILE_LIMIT: u64 = 16_777_216;
 
 /// The text in an answer, or why there is none.
-fn text_in(absent: Failure, answer: FileAnswer) -> Result<Octets, Failure>
+fn text_in(absent: Refusal, answer: FileAnswer) -> Result<Octets, Failure>
     ensures { result ≡ text_in absent answer }
 {
     match answer {
         FileAnswer::Found(text) => Ok(text),
-        FileAnswer::Absent => Err(absent),
-        FileAnswer::TooLarge => Err(Failure::FileTooLong),
-        FileAnswer::Failed => Err(Failure::FileFault),
+        FileAnswer::Absent => Err(Failure::Refused(absent)),
+        FileAnswer::TooLarge => Err(Failure::Refused(Refusal::FileTooLong)),
+        FileAnswer::Failed => Err(Failure::Fault(Fault::File)),
         FileAnswer::OutOfMemory => Err(Failure::OutOfMemory),
     }
 }
 
 /// The text of a file, where it is there.
-fn text_of<F: Files>(files: &mut F, name: &[u8], absent: Failure) -> Result<Octets, Failure>
+fn text_of<F: Files>(files: &mut F, name: &[u8], absent: Refusal) -> Result<Octets, Failure>
     ensures { let at = files_view F.contents F.asked F.faults in
         (answer : Answer) × ReadsFile (at files.old) (at files.new) name.now answer × (result ≡ text_in absent answer) }
 {
@@ -39,18 +40,18 @@ fn text_of<F: Files>(files: &mut F, name: &[u8], absent: Failure) -> Result<Octe
 /// The store in a file.
 fn store_of<F: Files>(alloc: Global, files: &mut F, name: &[u8]) -> Result<Store, Failure>
     ensures { let at = files_view F.contents F.asked F.faults in
-        (answer : Answer) × ReadsFile (at files.old) (at files.new) name.now answer × IsStore (text_in Failure.StoreAbsent answer) result }
+        (answer : Answer) × ReadsFile (at files.old) (at files.new) name.now answer × IsStore (text_in Refusal.StoreAbsent answer) result }
 {
-    let text = text_of(files, name, Failure::StoreAbsent)?;
+    let text = text_of(files, name, Refusal::StoreAbsent)?;
     Ok(Store::read(alloc, text.bytes())?)
 }
 
 /// The spaces in a file.
 fn spaces_of<F: Files>(alloc: Global, files: &mut F, name: &[u8]) -> Result<Spaces, Failure>
     ensures { let at = files_view F.contents F.asked F.faults in
-        (answer : Answer) × ReadsFile (at files.old) (at files.new) name.now answer × IsSpaces (text_in Failure.SpacesAbsent answer) result }
+        (answer : Answer) × ReadsFile (at files.old) (at files.new) name.now answer × IsSpaces (text_in Refusal.SpacesAbsent answer) result }
 {
-    let text = text_of(files, name, Failure::SpacesAbsent)?;
+    let text = text_of(files, name, Refusal::SpacesAbsent)?;
     Ok(Spaces::read(alloc, text.bytes())?)
 }
 

@@ -1,9 +1,9 @@
 //! The command `pipe`: one connection is served.
 ghost use Rattle.std.specs.Prelude.{◌≡◌, ◌≤◌, ℕ, Err, IfOk, IfErr};
-ghost use Rattle.auth_io.specs.Causes.{Rose};
 ghost use Rattle.connection_loop.specs.Account.{link_of};
-ghost use Rattle.authd.specs.Loading.{files_view};
-ghost use Rattle.authd.specs.Pipe.{Pipes, ServesSite, fresh_table, objects, views};
+ghost use Rattle.authd.specs.Endings.{FailureSays};
+ghost use Rattle.authd.specs.Outside.{files_view, objects, views};
+ghost use Rattle.authd.specs.Pipe.{Pipes, ServesSite, fresh_table};
 
 use crate::command::Place;
 use crate::failure::Failure;
@@ -26,10 +26,10 @@ pub(crate) fn pipe<L: Link, F: Files, C: Clock, W: Words>(
     clock: &mut C,
     random: &mut W,
 ) -> Result<(), Failure>
-    ensures pipes { let v = views (link_of L.left L.given L.written L.reads) (files_view F.contents F.asked F.faults) C.shown W.faults in
+    ensures pipes { let v = views (link_of L.left L.given L.written L.reads) L.read_faults L.write_faults (files_view F.contents F.asked F.faults) C.shown W.faults in
         Pipes v place.now.store.now place.now.spaces.now place.now.root.now (objects link.old files.old clock.old random.old) (objects link.new files.new clock.new random.new) result }
-    ensures read_fault { result ≡ Err Failure.ReadFault → Rose (L.read_faults link.old) (L.read_faults link.new) }
-    ensures write_fault { result ≡ Err Failure.WriteFault → Rose (L.write_faults link.old) (L.write_faults link.new) }
+    ensures says { let v = views (link_of L.left L.given L.written L.reads) L.read_faults L.write_faults (files_view F.contents F.asked F.faults) C.shown W.faults in
+        IfErr result (FailureSays v (objects link.old files.old clock.old random.old) (objects link.new files.new clock.new random.new)) }
 {
     let site = site_of(alloc, files, place)?;
     serve(alloc, &site, link, files, clock, random)
@@ -55,10 +55,10 @@ fn serve<L: Link, F: Files, C: Clock, W: Words>(
     clock: &mut C,
     random: &mut W,
 ) -> Result<(), Failure>
-    ensures serves { let v = views (link_of L.left L.given L.written L.reads) (files_view F.contents F.asked F.faults) C.shown W.faults in
+    ensures serves { let v = views (link_of L.left L.given L.written L.reads) L.read_faults L.write_faults (files_view F.contents F.asked F.faults) C.shown W.faults in
         ServesSite v site.now (objects link.old files.old clock.old random.old) (objects link.new files.new clock.new random.new) result }
-    ensures read_fault { result ≡ Err Failure.ReadFault → Rose (L.read_faults link.old) (L.read_faults link.new) }
-    ensures write_fault { result ≡ Err Failure.WriteFault → Rose (L.write_faults link.old) (L.write_faults link.new) }
+    ensures says { let v = views (link_of L.left L.given L.written L.reads) L.read_faults L.write_faults (files_view F.contents F.asked F.faults) C.shown W.faults in
+        IfErr result (FailureSays v (objects link.old files.old clock.old random.old) (objects link.new files.new clock.new random.new)) }
 {
     let mut table = open_table(alloc)?;
     serve_connection(alloc, link, files, clock, random, &mut table, site)?;

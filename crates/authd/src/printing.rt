@@ -4,7 +4,7 @@ ghost use Rattle.std.specs.Io.KnownBytes.{Appends};
 ghost use Rattle.auth_io.specs.Causes.{Rose};
 ghost use Rattle.authd.specs.Endings.{Tells, IsPrintFailure};
 
-use crate::failure::Failure;
+use crate::failure::{Failure, Fault};
 use auth_grammar::OutOfMemory;
 use auth_io::{Link, Sink, Wrote};
 
@@ -15,13 +15,13 @@ pub(crate) fn print<L: Link>(link: &mut L, text: &[u8]) -> Result<(), Failure>
     ensures kind { IfErr result IsPrintFailure }
     ensures left { L.left link.new ≡ L.left link.old }
     ensures read_faults { L.read_faults link.new ≡ L.read_faults link.old }
-    ensures fault { result ≡ Err Failure.WriteFault → Rose (L.write_faults link.old) (L.write_faults link.new) }
+    ensures fault { result ≡ Err (Failure.Fault Fault.Write) → Rose (L.write_faults link.old) (L.write_faults link.new) }
 {
     let mut at = 0;
     while at < text.len() {
         match link.write(&text[at..]) {
             Wrote::Taken(count) => at += count,
-            Wrote::Failed => return Err(Failure::WriteFault),
+            Wrote::Failed => return Err(Failure::Fault(Fault::Write)),
             Wrote::OutOfMemory => return Err(Failure::OutOfMemory),
         }
     }

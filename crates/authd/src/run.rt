@@ -1,13 +1,11 @@
 //! All of the program that waits for nobody.
-ghost use Rattle.std.specs.Prelude.{◌≡◌, ◌≤◌, ℕ, List, Err, map, string_bytes};
-ghost use Rattle.authd.specs.Words.{command_of};
-ghost use Rattle.authd.specs.Words as asks;
-ghost use Rattle.authd.specs.Endings.{Ending, Reports};
-ghost use Rattle.authd.specs.Show.{Shows};
-ghost use Rattle.auth_io.specs.Causes.{Rose};
+ghost use Rattle.std.specs.Prelude.{◌≡◌, ℕ, IfErr, OnErr, OnOk, map, string_bytes, take};
+ghost use Rattle.std.specs.Io.KnownBytes.{Appends};
 ghost use Rattle.connection_loop.specs.Account.{link_of};
-ghost use Rattle.authd.specs.Loading.{files_view};
-ghost use Rattle.authd.specs.Pipe.{Pipes, objects, views};
+ghost use Rattle.authd.specs.Endings.{Ending, FailureSays, IsRefusal, Reports, Tells, line_of};
+ghost use Rattle.authd.specs.Outside.{IsUntouched, SomeRose, files_view, objects, views};
+ghost use Rattle.authd.specs.Run.{Does};
+ghost use Rattle.authd.specs.Words.{command_of};
 
 use crate::command::{Command, command_of};
 use crate::failure::Failure;
@@ -29,21 +27,18 @@ pub fn run<L: Link, F: Files, C: Clock, W: Words, D: Sink>(
     random: &mut W,
     diag: &mut D,
 ) -> u8
-    ensures usage { command_of (map string_bytes words.now.items) ≡ asks.Usage →
-        Reports (Err Failure.Usage) (D.written diag.old) (D.written diag.new) (D.faults diag.old) (D.faults diag.new) result
-        × (link.new ≡ link.old) × (files.new ≡ files.old) × (clock.new ≡ clock.old) × (random.new ≡ random.old) }
-    ensures show { command_of (map string_bytes words.now.items) ≡ asks.Show →
-        ((ending : Ending) × Shows (L.left link.old) (L.left link.new) (L.written link.old) (L.written link.new) ending
-        × Reports ending (D.written diag.old) (D.written diag.new) (D.faults diag.old) (D.faults diag.new) result
-        × (ending ≡ Err Failure.ReadFault → Rose (L.read_faults link.old) (L.read_faults link.new))
-        × (ending ≡ Err Failure.WriteFault → Rose (L.write_faults link.old) (L.write_faults link.new)))
-        × (files.new ≡ files.old) × (clock.new ≡ clock.old) × (random.new ≡ random.old) }
-    ensures pipe { (store spaces root : List ℕ) → command_of (map string_bytes words.now.items) ≡ asks.Pipe store spaces root →
-        let v = views (link_of L.left L.given L.written L.reads) (files_view F.contents F.asked F.faults) C.shown W.faults in
-        (ending : Ending) × Pipes v store spaces root (objects link.old files.old clock.old random.old) (objects link.new files.new clock.new random.new) ending
-        × Reports ending (D.written diag.old) (D.written diag.new) (D.faults diag.old) (D.faults diag.new) result
-        × (ending ≡ Err Failure.ReadFault → Rose (L.read_faults link.old) (L.read_faults link.new))
-        × (ending ≡ Err Failure.WriteFault → Rose (L.write_faults link.old) (L.write_faults link.new)) }
+    // What the words ask for is done, with some ending, which the status and the line on diag tell.
+    ensures does { let v = views (link_of L.left L.given L.written L.reads) L.read_faults L.write_faults (files_view F.contents F.asked F.faults) C.shown W.faults in
+        (ending : Ending) × Does v (command_of (map string_bytes words.now.items)) (objects link.old files.old clock.old random.old) (objects link.new files.new clock.new random.new) ending
+        × Reports ending (D.written diag.old) (D.written diag.new) (D.faults diag.old) (D.faults diag.new) result }
+
+    // Where the words, the input or a file is refused nothing is written, and no file changes.
+    ensures refused { let v = views (link_of L.left L.given L.written L.reads) L.read_faults L.write_faults (files_view F.contents F.asked F.faults) C.shown W.faults in
+        IsRefusal result → IsUntouched v (objects link.old files.old clock.old random.old) (objects link.new files.new clock.new random.new) }
+
+    // No fault is answered without its cause.
+    ensures fault { let v = views (link_of L.left L.given L.written L.reads) L.read_faults L.write_faults (files_view F.contents F.asked F.faults) C.shown W.faults in
+        result ≡ 4 → SomeRose v (objects link.old files.old clock.old random.old) (objects link.new files.new clock.new random.new) }
 {
     let ending = perform(alloc, words.as_slice(), link, files, clock, random);
     report(alloc, ending, diag)
@@ -58,19 +53,10 @@ fn perform<L: Link, F: Files, C: Clock, W: Words>(
     clock: &mut C,
     random: &mut W,
 ) -> Result<(), Failure>
-    ensures usage { command_of (map string_bytes words.now) ≡ asks.Usage →
-        (result ≡ Err Failure.Usage)
-        × (link.new ≡ link.old) × (files.new ≡ files.old) × (clock.new ≡ clock.old) × (random.new ≡ random.old) }
-    ensures show { command_of (map string_bytes words.now) ≡ asks.Show →
-        Shows (L.left link.old) (L.left link.new) (L.written link.old) (L.written link.new) result
-        × (result ≡ Err Failure.ReadFault → Rose (L.read_faults link.old) (L.read_faults link.new))
-        × (result ≡ Err Failure.WriteFault → Rose (L.write_faults link.old) (L.write_faults link.new))
-        × (files.new ≡ files.old) × (clock.new ≡ clock.old) × (random.new ≡ random.old) }
-    ensures pipe { (store spaces root : List ℕ) → command_of (map string_bytes words.now) ≡ asks.Pipe store spaces root →
-        let v = views (link_of L.left L.given L.written L.reads) (files_view F.contents F.asked F.faults) C.shown W.faults in
-        Pipes v store spaces root (objects link.old files.old clock.old random.old) (objects link.new files.new clock.new random.new) result
-        × (result ≡ Err Failure.ReadFault → Rose (L.read_faults link.old) (L.read_faults link.new))
-        × (result ≡ Err Failure.WriteFault → Rose (L.write_faults link.old) (L.write_faults link.new)) }
+    ensures does { let v = views (link_of L.left L.given L.written L.reads) L.read_faults L.write_faults (files_view F.contents F.asked F.faults) C.shown W.faults in
+        Does v (command_of (map string_bytes words.now)) (objects link.old files.old clock.old random.old) (objects link.new files.new clock.new random.new) result }
+    ensures says { let v = views (link_of L.left L.given L.written L.reads) L.read_faults L.write_faults (files_view F.contents F.asked F.faults) C.shown W.faults in
+        IfErr result (FailureSays v (objects link.old files.old clock.old random.old) (objects link.new files.new clock.new random.new)) }
 {
     match command_of(words) {
         Command::Usage => Err(Failure::Usage),
@@ -91,10 +77,6 @@ fn report<D: Sink>(alloc: Global, ending: Result<(), Failure>, diag: &mut D) -> 
         Err(OutOfMemory) => 7,
     }
 }
-
-ghost use Rattle.std.specs.Prelude.{OnOk, OnErr, take};
-ghost use Rattle.std.specs.Io.KnownBytes.{Appends};
-ghost use Rattle.authd.specs.Endings.{Tells, line_of};
 
 /// Writes the line of a failure.
 fn tell_failure<D: Sink>(alloc: Global, failure: Failure, diag: &mut D) -> Result<(), OutOfMemory>

@@ -2,11 +2,12 @@
 ghost use Rattle.std.specs.Prelude.{◌≡◌, ◌≤◌, ◌++◌, ◌∷◌, [], Err, IfOk, OnOk};
 ghost use Rattle.std.specs.Str.Lines.{lines, strip_carriage_return};
 ghost use Rattle.auth_io.specs.Causes.{Rose};
+ghost use Rattle.connection_loop.specs.Account.{link_of};
 ghost use Rattle.auth_grammar.specs.Writing.{item_text};
 ghost use Rattle.auth_grammar.specs.declared.items.Quoting.TheVariants as quoting;
 ghost use Rattle.authd.specs.Show.{IsShown, Shows, item_lines};
 
-use crate::failure::Failure;
+use crate::failure::{Failure, Fault, Refusal};
 use crate::input::read_input;
 use crate::printing::print;
 use auth_grammar::{
@@ -19,9 +20,9 @@ use std::alloc::Global;
 /// Reads the lines of a field with challenges to the end of the input, and writes each item in its one text on a line.
 /// An input of more than 16,384 bytes is refused. Nothing is written of an input that is refused.
 pub(crate) fn show<L: Link>(alloc: Global, link: &mut L) -> Result<(), Failure>
-    ensures shows { Shows (L.left link.old) (L.left link.new) (L.written link.old) (L.written link.new) result }
-    ensures read_fault { result ≡ Err Failure.ReadFault → Rose (L.read_faults link.old) (L.read_faults link.new) }
-    ensures write_fault { result ≡ Err Failure.WriteFault → Rose (L.write_faults link.old) (L.write_faults link.new) }
+    ensures shows { let at = link_of L.left L.given L.written L.reads in Shows (at link.old) (at link.new) result }
+    ensures read_fault { result ≡ Err (Failure.Fault Fault.Read) → Rose (L.read_faults link.old) (L.read_faults link.new) }
+    ensures write_fault { result ≡ Err (Failure.Fault Fault.Write) → Rose (L.write_faults link.old) (L.write_faults link.new) }
 {
     let input = read_input(alloc, link)?;
     let text = shown(alloc, input.bytes())?;
@@ -35,8 +36,8 @@ fn shown(alloc: Global, input: &[u8]) -> Result<Octets, Failure>
     let lines = lines_of(alloc, input)?;
     match read_challenges(alloc, &lines) {
         Ok(items) => Ok(item_lines(alloc, items)?),
-        Err(GrammarError::NotGrammar { at }) => Err(Failure::NotGrammar { at }),
-        Err(GrammarError::Twice { at, .. }) => Err(Failure::Twice { at }),
+        Err(GrammarError::NotGrammar { at }) => Err(Failure::Refused(Refusal::NotGrammar { at })),
+        Err(GrammarError::Twice { at, .. }) => Err(Failure::Refused(Refusal::Twice { at })),
         Err(GrammarError::OutOfMemory) => Err(Failure::OutOfMemory),
     }
 }

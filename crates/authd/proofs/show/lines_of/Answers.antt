@@ -1,4 +1,4 @@
-use Rattle.std.proofs.Common.{◌≡◌, ◌<◌, ◌∷◌, [], ◌∙◌, sym, ap, length, append_assoc, arith}
+use Rattle.std.proofs.Common.{◌∷◌, [], ◌∙◌, sym, ap, append_assoc}
 use Rattle.std.specs.Str.Lines.{lines}
 use Rattle.std.proofs.lemmas.List.{append-nil}
 use Rattle.authd.proofs.Lines.{lines_first, lines_last, lines_none}
