@@ -31,11 +31,12 @@ pub record Views (L F C W : Type 0) : Type 0 where
   pub write_faults : L → ℕ
   pub files : F → FilesView
   pub shown : C → Option (List ℕ)
+  pub drawn : W → Option (List (List ℕ))
   pub word_faults : W → ℕ
 
-abbrev pub views : {L F C W : Type 0} → (L → LinkState) → (L → ℕ) → (L → ℕ) → (F → FilesView) → (C → Option (List ℕ)) → (W → ℕ) → Views L F C W
-views link read_faults write_faults files shown word_faults =
-    record { link = link; read_faults = read_faults; write_faults = write_faults; files = files; shown = shown; word_faults = word_faults }
+abbrev pub views : {L F C W : Type 0} → (L → LinkState) → (L → ℕ) → (L → ℕ) → (F → FilesView) → (C → Option (List ℕ)) → (W → Option (List (List ℕ))) → (W → ℕ) → Views L F C W
+views link read_faults write_faults files shown drawn word_faults =
+    record { link = link; read_faults = read_faults; write_faults = write_faults; files = files; shown = shown; drawn = drawn; word_faults = word_faults }
 
 -- a count of faults has risen
 abbrev pub SomeRose : {L F C W : Type 0} → Views L F C W → Objects L F C W → Objects L F C W → Type 0

@@ -11,6 +11,9 @@ use std::alloc::Global;
 /// How many bytes an input may have.
 const INPUT_LIMIT: usize = 16_384;
 
+/// How many bytes are read at a time.
+const PIECE: usize = 4_096;
+
 /// Reads a piece of the input, no more than up to the first byte that is too many. Whether there was any.
 fn read_piece<L: Link>(link: &mut L, input: &mut Octets) -> Result<bool, Failure>
     requires { length input.old ≤ 16384 }
@@ -20,8 +23,8 @@ fn read_piece<L: Link>(link: &mut L, input: &mut Octets) -> Result<bool, Failure
     ensures later { L.read_faults link.old ≤ L.read_faults link.new }
     ensures fault { result ≡ Err (Failure.Fault Fault.Read) → Rose (L.read_faults link.old) (L.read_faults link.new) }
 {
-    let mut piece = [0; 4096];
-    let room = (INPUT_LIMIT + 1 - input.len()).min(4096);
+    let mut piece = [0; PIECE];
+    let room = (INPUT_LIMIT + 1 - input.len()).min(PIECE);
     let into = &mut piece[..room];
     let Ok(count) = link.read(into) else {
         return Err(Failure::Fault(Fault::Read));

@@ -1,5 +1,5 @@
 //! The command `pipe`: one connection is served.
-ghost use Rattle.std.specs.Prelude.{◌≡◌, ◌≤◌, ℕ, Err, IfOk, IfErr};
+ghost use Rattle.std.specs.Prelude.{◌≡◌, IfErr, IfOk};
 ghost use Rattle.connection_loop.specs.Account.{link_of};
 ghost use Rattle.authd.specs.Endings.{FailureSays};
 ghost use Rattle.authd.specs.Outside.{files_view, objects, views};
@@ -26,9 +26,9 @@ pub(crate) fn pipe<L: Link, F: Files, C: Clock, W: Words>(
     clock: &mut C,
     random: &mut W,
 ) -> Result<(), Failure>
-    ensures pipes { let v = views (link_of L.left L.given L.written L.reads) L.read_faults L.write_faults (files_view F.contents F.asked F.faults) C.shown W.faults in
+    ensures pipes { let v = views (link_of L.left L.given L.written L.reads) L.read_faults L.write_faults (files_view F.contents F.asked F.faults) C.shown W.drawn W.faults in
         Pipes v place.now.store.now place.now.spaces.now place.now.root.now (objects link.old files.old clock.old random.old) (objects link.new files.new clock.new random.new) result }
-    ensures says { let v = views (link_of L.left L.given L.written L.reads) L.read_faults L.write_faults (files_view F.contents F.asked F.faults) C.shown W.faults in
+    ensures says { let v = views (link_of L.left L.given L.written L.reads) L.read_faults L.write_faults (files_view F.contents F.asked F.faults) C.shown W.drawn W.faults in
         IfErr result (FailureSays v (objects link.old files.old clock.old random.old) (objects link.new files.new clock.new random.new)) }
 {
     let site = site_of(alloc, files, place)?;
@@ -55,9 +55,9 @@ fn serve<L: Link, F: Files, C: Clock, W: Words>(
     clock: &mut C,
     random: &mut W,
 ) -> Result<(), Failure>
-    ensures serves { let v = views (link_of L.left L.given L.written L.reads) L.read_faults L.write_faults (files_view F.contents F.asked F.faults) C.shown W.faults in
+    ensures serves { let v = views (link_of L.left L.given L.written L.reads) L.read_faults L.write_faults (files_view F.contents F.asked F.faults) C.shown W.drawn W.faults in
         ServesSite v site.now (objects link.old files.old clock.old random.old) (objects link.new files.new clock.new random.new) result }
-    ensures says { let v = views (link_of L.left L.given L.written L.reads) L.read_faults L.write_faults (files_view F.contents F.asked F.faults) C.shown W.faults in
+    ensures says { let v = views (link_of L.left L.given L.written L.reads) L.read_faults L.write_faults (files_view F.contents F.asked F.faults) C.shown W.drawn W.faults in
         IfErr result (FailureSays v (objects link.old files.old clock.old random.old) (objects link.new files.new clock.new random.new)) }
 {
     let mut table = open_table(alloc)?;

@@ -1,5 +1,5 @@
 //! Writing whole texts.
-ghost use Rattle.std.specs.Prelude.{◌≡◌, ◌≤◌, ◌⊎◌, ℕ, Err, OnOk, OnErr, IfErr, take};
+ghost use Rattle.std.specs.Prelude.{◌≡◌, ℕ, Err, IfErr, OnErr, OnOk, take};
 ghost use Rattle.std.specs.Io.KnownBytes.{Appends};
 ghost use Rattle.auth_io.specs.Causes.{Rose};
 ghost use Rattle.authd.specs.Endings.{Tells, IsPrintFailure};

@@ -1,5 +1,5 @@
 //! The command `show`: the items that the lines of a field spell.
-ghost use Rattle.std.specs.Prelude.{◌≡◌, ◌≤◌, ◌++◌, ◌∷◌, [], Err, IfOk, OnOk};
+ghost use Rattle.std.specs.Prelude.{◌≡◌, ◌++◌, ◌∷◌, [], Err, IfOk, OnOk};
 ghost use Rattle.std.specs.Str.Lines.{lines, strip_carriage_return};
 ghost use Rattle.auth_io.specs.Causes.{Rose};
 ghost use Rattle.connection_loop.specs.Account.{link_of};
