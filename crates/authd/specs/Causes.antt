@@ -1,21 +1,25 @@
 -- Why the program ends, by what a part of it answered.
 use Rattle.connection_loop.specs.declared.served.ServeError.{ServeError}
 use Rattle.connection_loop.specs.declared.served.ServeError.TheVariants as served
-use Rattle.cred_store.specs.declared.store.StoreError.{StoreError}
-use Rattle.cred_store.specs.declared.store.StoreError.TheVariants as store
-use Rattle.spaces_map.specs.declared.spaces.SpacesError.{SpacesError}
-use Rattle.spaces_map.specs.declared.spaces.SpacesError.TheVariants as spaces
+use Rattle.cred_store.specs.declared.error.StoreError.{StoreError}
+use Rattle.cred_store.specs.declared.error.StoreError.TheVariants as store
+use Rattle.spaces_map.specs.declared.error.SpacesError.{SpacesError}
+use Rattle.spaces_map.specs.declared.error.SpacesError.TheVariants as spaces
 use Rattle.authd.specs.declared.failure.Failure.{Failure}
 use Rattle.authd.specs.declared.failure.Failure.TheVariants as failure
 use Rattle.authd.specs.declared.failure.Fault.TheVariants as fault
 use Rattle.authd.specs.declared.failure.Refusal.TheVariants as refusal
 
 abbrev pub store_failure : StoreError → Failure
-store_failure store.NotBuilt = failure.Refused refusal.NotBuilt
+store_failure (store.BadLine line why) = failure.Refused (refusal.StoreLine line)
+store_failure (store.Repeated line) = failure.Refused (refusal.StoreLine line)
+store_failure (store.Unsorted line) = failure.Refused (refusal.StoreLine line)
+store_failure store.BadName = failure.Usage
 store_failure store.OutOfMemory = failure.OutOfMemory
 
 abbrev pub spaces_failure : SpacesError → Failure
-spaces_failure spaces.NotBuilt = failure.Refused refusal.NotBuilt
+spaces_failure (spaces.BadLine line) = failure.Refused (refusal.SpacesLine line)
+spaces_failure (spaces.SamePrefix line) = failure.Refused (refusal.SpacesLine line)
 spaces_failure spaces.OutOfMemory = failure.OutOfMemory
 
 abbrev pub serve_failure : ServeError → Failure

@@ -1,30 +1,32 @@
 -- Reading a site from its files: the store first, and the spaces where the store was read.
-use Rattle.std.specs.Prelude.{◌≡◌, ◌≢◌, ℕ, ⊤, true, List, [], ◌∷◌, Result, Ok, Err}
+use Rattle.std.specs.Prelude.{◌≡◌, ℕ, ⊤, List, Result, Ok, Err}
 use Rattle.auth_decide.specs.declared.site.Site.{Site}
-use Rattle.auth_grammar.specs.Plain.{is_plain_name}
 use Rattle.auth_io.specs.Files.{ReadAnswers, AddsAsked, read_entry, ReadRose}
 use Rattle.auth_io.specs.declared.files.FileAnswer.{FileAnswer}
 use Rattle.auth_io.specs.declared.files.FileAnswer.TheVariants as file
-use Rattle.cred_store.specs.Texts.{IsEntry, store_text}
+use Rattle.cred_store.specs.Faults.{FirstFault}
+use Rattle.cred_store.specs.Texts as store
+use Rattle.cred_store.specs.Texts.{store_text}
 use Rattle.cred_store.specs.declared.entry.Entry.{Entry}
-use Rattle.cred_store.specs.declared.store.StoreError.{StoreError}
-use Rattle.cred_store.specs.declared.store.StoreError.TheVariants as store
-use Rattle.spaces_map.specs.Texts.{whole_space, whole_space_text}
+use Rattle.cred_store.specs.declared.error.StoreError.{StoreError}
+use Rattle.cred_store.specs.declared.error.StoreError.TheVariants as error
+use Rattle.spaces_map.specs.Texts as spaces
+use Rattle.spaces_map.specs.Texts.{IsBadLine, IsSamePrefix, spaces_text}
 use Rattle.spaces_map.specs.declared.space.Space.{Space}
-use Rattle.spaces_map.specs.declared.spaces.SpacesError.{SpacesError}
-use Rattle.spaces_map.specs.declared.spaces.SpacesError.TheVariants as spaces
+use Rattle.spaces_map.specs.declared.error.SpacesError.{SpacesError}
+use Rattle.spaces_map.specs.declared.error.SpacesError.TheVariants as fault_of
 use Rattle.authd.specs.Causes.{store_failure, spaces_failure}
 use Rattle.authd.specs.declared.failure.Failure.{Failure}
 use Rattle.authd.specs.declared.failure.Failure.TheVariants as failure
 use Rattle.authd.specs.declared.failure.Fault.TheVariants as fault
 use Rattle.authd.specs.declared.failure.Refusal.{Refusal}
 use Rattle.authd.specs.declared.failure.Refusal.TheVariants as refusal
-use Rattle.authd.specs.Outside.{FilesView}
+use Rattle.origin_core.specs.Outside.{FilesState}
 
 -- ---- one file
 
 -- one file was read, of at most 16,777,216 bytes, with this answer
-pub record ReadsFile (before now : FilesView) (name : List ℕ) (answer : FileAnswer) : Type 0 where
+pub record ReadsFile (before now : FilesState) (name : List ℕ) (answer : FileAnswer) : Type 0 where
   pub answers : ReadAnswers before.contents name 16777216 answer
   pub contents : now.contents ≡ before.contents
   pub asked : AddsAsked before.asked now.asked (read_entry name answer)
@@ -42,15 +44,16 @@ text_in absent file.OutOfMemory = Err failure.OutOfMemory
 
 -- what reading a text of secrets answers
 abbrev pub ReadsStore : List ℕ → Result (List Entry) StoreError → Type 0
-ReadsStore text (Ok entries) = (entry : Entry) × IsEntry entry × (entries ≡ entry ∷ []) × (text ≡ store_text (entry ∷ []))
-ReadsStore text (Err store.NotBuilt) = (entry : Entry) → IsEntry entry → text ≢ store_text (entry ∷ [])
-ReadsStore text (Err store.OutOfMemory) = ⊤
+ReadsStore text (Ok entries) = store.IsStore entries × (text ≡ store_text entries)
+ReadsStore text (Err error.OutOfMemory) = ⊤
+ReadsStore text (Err other) = FirstFault text other
 
 -- what reading a text of spaces answers
 abbrev pub ReadsSpaces : List ℕ → Result (List Space) SpacesError → Type 0
-ReadsSpaces text (Ok list) = (realm : List ℕ) × (is_plain_name realm ≡ true) × (text ≡ whole_space_text realm) × (list ≡ whole_space realm ∷ [])
-ReadsSpaces text (Err spaces.NotBuilt) = (realm : List ℕ) → is_plain_name realm ≡ true → text ≢ whole_space_text realm
-ReadsSpaces text (Err spaces.OutOfMemory) = ⊤
+ReadsSpaces text (Ok list) = spaces.IsSpaces list × (text ≡ spaces_text list)
+ReadsSpaces text (Err (fault_of.BadLine line)) = IsBadLine text line
+ReadsSpaces text (Err (fault_of.SamePrefix line)) = IsSamePrefix text line
+ReadsSpaces text (Err fault_of.OutOfMemory) = ⊤
 
 -- the store in a text, or why there is none
 abbrev pub IsStore : Result (List ℕ) Failure → Result (List Entry) Failure → Type 0
@@ -73,14 +76,14 @@ IsSite entries (Ok list) root (Ok site) = (site.store ≡ entries) × (site.spac
 IsSite entries (Ok list) root (Err other) = other ≡ failure.OutOfMemory
 
 -- Where the store was read, the spaces are.
-abbrev pub LoadsSpaces : {F : Type 0} → (F → FilesView) → F → F → List ℕ → List ℕ → Result (List Entry) Failure → Result Site Failure → Type 0
+abbrev pub LoadsSpaces : {F : Type 0} → (F → FilesState) → F → F → List ℕ → List ℕ → Result (List Entry) Failure → Result Site Failure → Type 0
 LoadsSpaces at before now name root (Err other) result = (now ≡ before) × (result ≡ Err other)
 LoadsSpaces at before now name root (Ok entries) result =
     (answer : FileAnswer) × ReadsFile (at before) (at now) name answer
     × (list : Result (List Space) Failure) × IsSpaces (text_in refusal.SpacesAbsent answer) list × IsSite entries list root result
 
 -- a site, by the names of its store and of its spaces, and its root
-abbrev pub LoadsSite : {F : Type 0} → (F → FilesView) → F → F → List ℕ → List ℕ → List ℕ → Result Site Failure → Type 0
+abbrev pub LoadsSite : {F : Type 0} → (F → FilesState) → F → F → List ℕ → List ℕ → List ℕ → Result Site Failure → Type 0
 LoadsSite {F} at before now store_name spaces_name root result =
     (middle : F) × (answer : FileAnswer) × ReadsFile (at before) (at middle) store_name answer
     × (entries : Result (List Entry) Failure) × IsStore (text_in refusal.StoreAbsent answer) entries × LoadsSpaces at middle now spaces_name root entries result

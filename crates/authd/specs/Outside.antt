@@ -1,9 +1,8 @@
 -- The outside of the program.
 use Rattle.std.specs.Prelude.{◌≡◌, ◌⊎◌, ℕ, List, Option}
 use Rattle.auth_io.specs.Causes.{Rose}
-use Rattle.auth_io.specs.Files.{Contents}
-use Rattle.auth_io.specs.declared.files.Ending.{Ending}
 use Rattle.connection_loop.specs.Account.{LinkState}
+use Rattle.origin_core.specs.Outside.{FilesState}
 
 -- a link, files, a clock and a source of random words
 pub record Objects (L F C W : Type 0) : Type 0 where
@@ -15,26 +14,17 @@ pub record Objects (L F C W : Type 0) : Type 0 where
 abbrev pub objects : {L F C W : Type 0} → L → F → C → W → Objects L F C W
 objects link files clock random = record { link = link; files = files; clock = clock; random = random }
 
--- files at one moment, as far as they tell
-pub record FilesView : Type 0 where
-  pub contents : Option Contents
-  pub asked : Option (List (List ℕ × Ending))
-  pub faults : ℕ
-
-abbrev pub files_view : {F : Type 0} → (F → Option Contents) → (F → Option (List (List ℕ × Ending))) → (F → ℕ) → F → FilesView
-files_view contents asked faults files = record { contents = contents files; asked = asked files; faults = faults files }
-
 -- what the objects tell, and their counts of faults
 pub record Views (L F C W : Type 0) : Type 0 where
   pub link : L → LinkState
   pub read_faults : L → ℕ
   pub write_faults : L → ℕ
-  pub files : F → FilesView
+  pub files : F → FilesState
   pub shown : C → Option (List ℕ)
   pub drawn : W → Option (List (List ℕ))
   pub word_faults : W → ℕ
 
-abbrev pub views : {L F C W : Type 0} → (L → LinkState) → (L → ℕ) → (L → ℕ) → (F → FilesView) → (C → Option (List ℕ)) → (W → Option (List (List ℕ))) → (W → ℕ) → Views L F C W
+abbrev pub views : {L F C W : Type 0} → (L → LinkState) → (L → ℕ) → (L → ℕ) → (F → FilesState) → (C → Option (List ℕ)) → (W → Option (List (List ℕ))) → (W → ℕ) → Views L F C W
 views link read_faults write_faults files shown drawn word_faults =
     record { link = link; read_faults = read_faults; write_faults = write_faults; files = files; shown = shown; drawn = drawn; word_faults = word_faults }
 

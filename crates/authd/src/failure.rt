@@ -38,8 +38,10 @@ pub enum Refusal {
     SpacesAbsent,
     /// A file is longer than 16,777,216 bytes.
     FileTooLong,
-    /// The text of the store or of the spaces is of a form that isn't read so far.
-    NotBuilt,
+    /// This line of the store is its first faulty one.
+    StoreLine { line: u32 },
+    /// This line of the spaces is their first faulty one.
+    SpacesLine { line: u32 },
 }
 
 /// What failed. Its count of faults has risen.
@@ -72,7 +74,10 @@ impl From<StoreError> for Failure {
 
     fn from(error: StoreError) -> Failure {
         match error {
-            StoreError::NotBuilt => Failure::Refused(Refusal::NotBuilt),
+            StoreError::BadLine { line, .. }
+            | StoreError::Repeated { line }
+            | StoreError::Unsorted { line } => Failure::Refused(Refusal::StoreLine { line }),
+            StoreError::BadName => Failure::Usage,
             StoreError::OutOfMemory => Failure::OutOfMemory,
         }
     }
@@ -85,7 +90,9 @@ impl From<SpacesError> for Failure {
 
     fn from(error: SpacesError) -> Failure {
         match error {
-            SpacesError::NotBuilt => Failure::Refused(Refusal::NotBuilt),
+            SpacesError::BadLine { line } | SpacesError::SamePrefix { line } => {
+                Failure::Refused(Refusal::SpacesLine { line })
+            }
             SpacesError::OutOfMemory => Failure::OutOfMemory,
         }
     }
@@ -148,7 +155,8 @@ impl Refusal {
             Refusal::StoreAbsent => Octets::of(alloc, b"store absent\n"),
             Refusal::SpacesAbsent => Octets::of(alloc, b"spaces absent\n"),
             Refusal::FileTooLong => Octets::of(alloc, b"file too long\n"),
-            Refusal::NotBuilt => Octets::of(alloc, b"not built\n"),
+            Refusal::StoreLine { line } => numbered_line(alloc, b"store line ", line as u64),
+            Refusal::SpacesLine { line } => numbered_line(alloc, b"spaces line ", line as u64),
         }
     }
 }

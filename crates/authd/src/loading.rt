@@ -2,7 +2,7 @@
 ghost use Rattle.std.specs.Prelude.{◌≡◌};
 ghost use Rattle.auth_io.specs.declared.files.FileAnswer.{FileAnswer as Answer};
 ghost use Rattle.authd.specs.Loading.{IsSpaces, IsStore, LoadsSite, ReadsFile, text_in};
-ghost use Rattle.authd.specs.Outside.{files_view};
+ghost use Rattle.origin_core.specs.Outside.{files_state};
 
 use crate::command::Place;
 use crate::failure::{Failure, Fault, Refusal};
@@ -31,7 +31,7 @@ fn text_in(absent: Refusal, answer: FileAnswer) -> Result<Octets, Failure>
 
 /// The text of a file, where it is there.
 fn text_of<F: Files>(files: &mut F, name: &[u8], absent: Refusal) -> Result<Octets, Failure>
-    ensures { let at = files_view F.contents F.asked F.faults in
+    ensures { let at = files_state F.contents F.asked F.faults in
         (answer : Answer) × ReadsFile (at files.old) (at files.new) name.now answer × (result ≡ text_in absent answer) }
 {
     text_in(absent, files.read(name, FILE_LIMIT))
@@ -39,7 +39,7 @@ fn text_of<F: Files>(files: &mut F, name: &[u8], absent: Refusal) -> Result<Octe
 
 /// The store in a file.
 fn store_of<F: Files>(alloc: Global, files: &mut F, name: &[u8]) -> Result<Store, Failure>
-    ensures { let at = files_view F.contents F.asked F.faults in
+    ensures { let at = files_state F.contents F.asked F.faults in
         (answer : Answer) × ReadsFile (at files.old) (at files.new) name.now answer × IsStore (text_in Refusal.StoreAbsent answer) result }
 {
     let text = text_of(files, name, Refusal::StoreAbsent)?;
@@ -48,7 +48,7 @@ fn store_of<F: Files>(alloc: Global, files: &mut F, name: &[u8]) -> Result<Store
 
 /// The spaces in a file.
 fn spaces_of<F: Files>(alloc: Global, files: &mut F, name: &[u8]) -> Result<Spaces, Failure>
-    ensures { let at = files_view F.contents F.asked F.faults in
+    ensures { let at = files_state F.contents F.asked F.faults in
         (answer : Answer) × ReadsFile (at files.old) (at files.new) name.now answer × IsSpaces (text_in Refusal.SpacesAbsent answer) result }
 {
     let text = text_of(files, name, Refusal::SpacesAbsent)?;
@@ -61,7 +61,7 @@ pub(crate) fn site_of<F: Files>(
     files: &mut F,
     place: &Place<'_>,
 ) -> Result<Site, Failure>
-    ensures { LoadsSite (files_view F.contents F.asked F.faults) files.old files.new place.now.store.now place.now.spaces.now place.now.root.now result }
+    ensures { LoadsSite (files_state F.contents F.asked F.faults) files.old files.new place.now.store.now place.now.spaces.now place.now.root.now result }
 {
     let store = store_of(alloc, files, place.store)?;
     let spaces = spaces_of(alloc, files, place.spaces)?;
