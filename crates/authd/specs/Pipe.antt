@@ -36,7 +36,7 @@ ending_of (Err error) = Err (serve_failure error)
 abbrev pub ServesSite : {L F C W : Type 0} → Views L F C W → Site → Objects L F C W → Objects L F C W → Ending → Type 0
 ServesSite v site before now ending =
     ((ending ≡ Err failure.OutOfMemory) × (now ≡ before))
-    ⊎ ((table : Journal) × (served : Result Served ServeError) × ServesBy v site before now fresh_table table served × (ending ≡ ending_of served))
+    ⊎ ((table : Journal) × (table' : Journal) × (table ≡ fresh_table) × (served : Result Served ServeError) × ServesBy v site before now table table' served × (ending ≡ ending_of served))
 
 -- Without a site nothing is served.
 abbrev pub ServesLoaded : {L F C W : Type 0} → Views L F C W → Result Site Failure → Objects L F C W → Objects L F C W → Ending → Type 0
