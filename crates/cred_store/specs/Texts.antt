@@ -7,9 +7,14 @@ use Rattle.cred_store.specs.Kinds.{IsSecret, kind_name}
 use Rattle.cred_store.specs.LookUps.{algorithm_of, text_of}
 use Rattle.cred_store.specs.declared.entry.Entry.{Entry}
 use Rattle.cred_store.specs.declared.entry.Secret.{Secret}
+use Rattle.cred_store.specs.declared.line.Line.{Line}
 
 abbrev pub entry_at : List ℕ → List ℕ → Secret → Entry
 entry_at name realm secret = record { name = name; realm = realm; secret = secret }
+
+-- the entry that a line says
+abbrev pub entry_said : Line → Entry
+entry_said line = entry_at line.name.now line.realm.now line.secret
 
 -- an entry that can stand in a store
 pub record IsEntry (entry : Entry) : Type 0 where

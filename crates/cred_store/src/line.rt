@@ -1,7 +1,7 @@
 //! One line of a store's text, without its line feed.
 ghost use Rattle.std.specs.Prelude.{◌≡◌, ◌≢◌, IfErr, IfNone, IfOk, IfSome};
 ghost use Rattle.cred_store.specs.Faults.{HasParts, IsFaulty, colons};
-ghost use Rattle.cred_store.specs.Texts.{IsEntry, entry_at, entry_text};
+ghost use Rattle.cred_store.specs.Texts.{IsEntry, entry_said, entry_text};
 
 use crate::entry::Secret;
 use crate::error::LineFault;
@@ -52,8 +52,8 @@ fn parts_of(line: &[u8]) -> Option<Parts<'_>>
 
 /// Reads a line, or says what is wrong with it first.
 pub(crate) fn read_line(line: &[u8]) -> Result<Line<'_>, LineFault>
-    ensures entry { IfOk result (λ l. IsEntry (entry_at l.name.now l.realm.now l.secret)) }
-    ensures text { IfOk result (λ l. line.now ≡ entry_text (entry_at l.name.now l.realm.now l.secret)) }
+    ensures entry { IfOk result (λ said. IsEntry (entry_said said)) }
+    ensures text { IfOk result (λ said. line.now ≡ entry_text (entry_said said)) }
     ensures err { IfErr result (λ why. IsFaulty why line.now) }
 {
     let Some(parts) = parts_of(line) else {

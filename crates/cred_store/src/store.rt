@@ -76,8 +76,9 @@ impl Store {
     }
 
     /// Gives the name a secret in the realm, instead of the one of this algorithm that it had there.
-    /// `BadName` comes exactly where the name or the realm isn't 1 to 64 printable bytes without a
-    /// colon. After an error the store is as it was.
+    /// The store has fewer than 2^32 - 1 entries, and the secret its algorithm's length. `BadName`
+    /// comes exactly where the name or the realm isn't 1 to 64 printable bytes without a colon. After
+    /// an error the store is as it was.
     pub fn set(
         &mut self,
         alloc: Global,
@@ -109,7 +110,8 @@ impl Store {
     }
 
     /// Sets the MD5 secrets that a text of htdigest says, and tells for how many pairs of a user and
-    /// a realm. After an error the store is as it was.
+    /// a realm. The store's entries and the text's bytes are fewer than 2^32 together. After an error
+    /// the store is as it was.
     pub fn import_htdigest(&mut self, alloc: Global, text: &[u8]) -> Result<u32, StoreError>
         requires { length self.old + length text.now < 2 ^ 32 }
         ensures ok { IfOk result (λ count. (pairs : List EntryValue) × ArePairs (lines text.now) pairs × (count ≡ length (imported pairs)) × (self.new ≡ put_all (imported pairs) self.old)) }

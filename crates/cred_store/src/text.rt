@@ -3,7 +3,7 @@ ghost use Rattle.std.specs.Prelude.{◌≡◌, ◌≢◌, ◌+◌, ◌<◌, ◌^
 ghost use Rattle.std.specs.List.{flat_map};
 ghost use Rattle.cred_store.specs.Faults.{BeginsFaulty, FaultAfter, FaultBehind, IsTitleFaulty};
 ghost use Rattle.cred_store.specs.Keys.{IsRising};
-ghost use Rattle.cred_store.specs.Texts.{IsEntry, IsStore, entry_at, entry_line, header, store_text};
+ghost use Rattle.cred_store.specs.Texts.{IsEntry, IsStore, entry_line, entry_said, header, store_text};
 
 use crate::entry::{Entry, compare};
 use crate::error::{LineFault, StoreError};
@@ -87,8 +87,8 @@ fn next_entry<'t>(
 /// Reads the line with which a text begins, and what follows it.
 fn next_line(text: &[u8]) -> Result<(Line<'_>, &[u8]), LineFault>
     requires { text.now ≢ [] }
-    ensures entry { IfOk result (λ r. IsEntry (entry_at r.0.name.now r.0.realm.now r.0.secret)) }
-    ensures text { IfOk result (λ r. text.now ≡ entry_line (entry_at r.0.name.now r.0.realm.now r.0.secret) ++ r.1.now) }
+    ensures entry { IfOk result (λ r. IsEntry (entry_said r.0)) }
+    ensures text { IfOk result (λ r. text.now ≡ entry_line (entry_said r.0) ++ r.1.now) }
     ensures err { IfErr result (λ why. BeginsFaulty why text.now) }
 {
     let Some((line, rest)) = cut_at(text, b'\n') else {
@@ -102,8 +102,8 @@ fn next_line(text: &[u8]) -> Result<(Line<'_>, &[u8]), LineFault>
 
 /// Whether a line may stand behind these entries.
 fn check_order(entries: &[Entry], line: &Line<'_>, number: u32) -> Result<(), StoreError>
-    ensures rising { OnOk result (IsRising entries.now → IsRising (entries.now ++ entry_at line.now.name.now line.now.realm.now line.now.secret ∷ [])) }
-    ensures err { IfErr result (λ error. (text more : List ℕ) → IsEntry (entry_at line.now.name.now line.now.realm.now line.now.secret) → text ≡ entry_line (entry_at line.now.name.now line.now.realm.now line.now.secret) ++ more → FaultAfter entries.now text number error) }
+    ensures rising { OnOk result (IsRising entries.now → IsRising (entries.now ++ entry_said line.now ∷ [])) }
+    ensures err { IfErr result (λ error. (text more : List ℕ) → IsEntry (entry_said line.now) → text ≡ entry_line (entry_said line.now) ++ more → FaultAfter entries.now text number error) }
 {
     let Some(last) = entries.last() else {
         return Ok(());
