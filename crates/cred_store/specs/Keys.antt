@@ -1,5 +1,5 @@
 -- The order of the entries of a store.
-use Rattle.std.specs.Prelude.{ℕ, List}
+use Rattle.std.specs.Prelude.{◌≡◌, ℕ, List}
 use Rattle.std.specs.Cmp.Lexicographic.{slice_cmp}
 use Rattle.std.specs.List.Sorted.{IsStrictlySortedBy}
 use Rattle.std.specs.Ordering.{nat_cmp, ordering_then}
@@ -26,6 +26,10 @@ abbrev pub key_cmp : Key → Key → Ordering
 key_cmp a b =
     ordering_then (slice_cmp nat_cmp a.name b.name)
     (ordering_then (slice_cmp nat_cmp a.realm b.realm) (slice_cmp nat_cmp a.kind b.kind))
+
+-- how the entry's key stands to a key
+abbrev pub Stands : Key → Ordering → Entry → Type 0
+Stands key order entry = key_cmp (key_of entry) key ≡ order
 
 abbrev pub entry_cmp : Entry → Entry → Ordering
 entry_cmp a b = key_cmp (key_of a) (key_of b)

@@ -3,7 +3,7 @@ ghost use Rattle.std.specs.Prelude.{◌≡◌, ◌<◌, ◌≤◌, IfErr, IfOk, 
 ghost use Rattle.std.specs.List.{HoldsAt};
 ghost use Rattle.std.specs.List.Sorted.{IsPartitionPoint};
 ghost use Rattle.std.specs.declared.cmp.Ordering.TheVariants.{Less, Equal, Greater};
-ghost use Rattle.cred_store.specs.Keys.{IsRising, key_at, key_cmp, key_of};
+ghost use Rattle.cred_store.specs.Keys.{IsRising, Stands, key_at};
 ghost use Rattle.cred_store.specs.LookUps.{name_of_hash, secret_of};
 
 use crate::entry::{Entry, compare, is_hashed};
@@ -18,9 +18,9 @@ pub(crate) fn place_of(
     alg: Algorithm,
 ) -> Result<usize, usize>
     requires { IsRising entries.now }
-    ensures found { IfOk result (HoldsAt (λ e. key_cmp (key_of e) (key_at name.now realm.now alg) ≡ Equal) entries.now) }
+    ensures found { IfOk result (HoldsAt (Stands (key_at name.now realm.now alg) Equal) entries.now) }
     ensures found_bound { IfOk result (λ at. at < length entries.now) }
-    ensures free { IfErr result (IsPartitionPoint (λ e. key_cmp (key_of e) (key_at name.now realm.now alg) ≡ Less) (λ e. key_cmp (key_of e) (key_at name.now realm.now alg) ≡ Greater) entries.now) }
+    ensures free { IfErr result (IsPartitionPoint (Stands (key_at name.now realm.now alg) Less) (Stands (key_at name.now realm.now alg) Greater) entries.now) }
     ensures free_bound { IfErr result (λ at. at ≤ length entries.now) }
 {
     entries.binary_search_by(|entry| compare(entry, name, realm, alg))
