@@ -12,23 +12,29 @@ mod show;
 #[cfg(test)]
 mod tests;
 
+use crate::failure::Failure;
 use crate::run::run;
+use auth_grammar::OutOfMemory;
 use auth_io::{DiskFiles, OsWords, StdLink, SystemClock};
 use std::alloc::Global;
+use std::env;
+use std::io::{self, ErrorKind};
 use std::process::ExitCode;
-use std::{env, io};
 
-/// The words of the command line, without the program's name. Where the system doesn't give them as text there are none.
-fn words_of(rt: &HostRuntime, alloc: Global) -> Vec<String> {
+/// The words of the command line, without the program's name. Where they aren't all text there are none.
+fn words_of(rt: &HostRuntime, alloc: Global) -> Result<Vec<String>, OutOfMemory> {
     match env::args(rt) {
-        Ok(args) => args.skip(1).collect(alloc).unwrap_or(Vec::new(alloc)),
-        Err(_) => Vec::new(alloc),
+        Ok(args) => Ok(args.skip(1).collect(alloc)?),
+        Err(error) if error.kind() == ErrorKind::OutOfMemory => Err(OutOfMemory),
+        Err(_) => Ok(Vec::new(alloc)),
     }
 }
 
 fn main(rt: HostRuntime) -> ExitCode {
     let alloc = rt.alloc();
-    let words = words_of(&rt, alloc);
+    let Ok(words) = words_of(&rt, alloc) else {
+        return ExitCode::from(Failure::OutOfMemory.status());
+    };
     let status = run(
         alloc,
         &words,
