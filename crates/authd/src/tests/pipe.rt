@@ -138,7 +138,14 @@ fn a_site_is_refused_before_anything_is_read(rt: HostRuntime) -> Result<(), Fail
     let bad_store = refused(alloc, &[(b"store", b"authstore 2\n")])?;
     check(&rt, &bad_store, 3, b"", b"store line 1\n", b"another store");
     let bad_spaces = refused(alloc, &[store, (b"spaces", b"")])?;
-    check(&rt, &bad_spaces, 3, b"", b"spaces line 1\n", b"other spaces");
+    check(
+        &rt,
+        &bad_spaces,
+        3,
+        b"",
+        b"spaces line 1\n",
+        b"other spaces",
+    );
     let large = vec![in alloc; 0; 16_777_217]?;
     let large_store = refused(alloc, &[(b"store", large.as_slice())])?;
     check(
