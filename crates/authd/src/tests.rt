@@ -1,5 +1,6 @@
 //! What no clause says: the texts that the program prints, and that it ends well with memory to spare.
 mod pipe;
+mod rows;
 mod show;
 
 use crate::run::run;

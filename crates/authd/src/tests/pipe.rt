@@ -41,7 +41,10 @@ fn joined(alloc: Global, parts: &[&[u8]]) -> Result<Octets, Fail> {
 }
 
 /// Files, by a name and the bytes of each.
-fn files_of(alloc: Global, files: &[(&[u8], &[u8])]) -> Result<Vec<(Octets, Octets)>, Fail> {
+pub(super) fn files_of(
+    alloc: Global,
+    files: &[(&[u8], &[u8])],
+) -> Result<Vec<(Octets, Octets)>, Fail> {
     let mut contents = Vec::new(alloc);
     for (name, bytes) in files {
         let name = Octets::of(alloc, name)?;
