@@ -1,8 +1,9 @@
 -- What `pipe` does: it reads a site, and serves one connection by it.
-use Rattle.std.specs.Prelude.{◌≡◌, ◌⊎◌, ℕ, List, [], Result, Ok, Err}
+use Rattle.std.specs.Prelude.{◌≡◌, ◌≢◌, ◌⊎◌, ℕ, List, [], Result, Ok, Err}
 use Rattle.auth_decide.specs.declared.site.Site.{Site}
 use Rattle.connection_loop.specs.Results.{ServesSession}
 use Rattle.connection_loop.specs.declared.served.ServeError.{ServeError}
+use Rattle.connection_loop.specs.declared.served.ServeError.TheVariants as error
 use Rattle.connection_loop.specs.declared.served.Served.{Served}
 use Rattle.nonce_shard.specs.Journal.{Journal, seat_of}
 use Rattle.nonce_shard.specs.Sizes.{single_sizes}
@@ -32,11 +33,11 @@ abbrev pub ending_of : Result Served ServeError → Ending
 ending_of (Ok served) = Ok tt
 ending_of (Err error) = Err (serve_failure error)
 
--- A connection is served over a fresh table, where there is memory for one.
+-- A connection is served over a fresh table, where there is memory for one. The table is never worn.
 abbrev pub ServesSite : {L F C W : Type 0} → Views L F C W → Site → Objects L F C W → Objects L F C W → Ending → Type 0
 ServesSite v site before now ending =
     ((ending ≡ Err failure.OutOfMemory) × (now ≡ before))
-    ⊎ ((table : Journal) × (table' : Journal) × (table ≡ fresh_table) × (served : Result Served ServeError) × ServesBy v site before now table table' served × (ending ≡ ending_of served))
+    ⊎ ((table : Journal) × (table' : Journal) × (table ≡ fresh_table) × (served : Result Served ServeError) × ServesBy v site before now table table' served × ((calls : ℕ) → served ≢ Err (error.Worn calls)) × (ending ≡ ending_of served))
 
 -- Without a site nothing is served.
 abbrev pub ServesLoaded : {L F C W : Type 0} → Views L F C W → Result Site Failure → Objects L F C W → Objects L F C W → Ending → Type 0
