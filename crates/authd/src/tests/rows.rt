@@ -158,6 +158,36 @@ fn encoded_name() -> Exchange {
     }
 }
 
+/// Two offers make two challenges.
+fn offers() -> Exchange {
+    Exchange {
+        spaces: b"authspaces 1\n/ required MD5,SHA-256-sess+int+hash r\n",
+        store: b"authstore 1\nMufasa:http-auth@example.org:sha-256:7987c64c30e25f1b74be53f966b49b90f2808aa92faf9a00262392d7b4794232\n",
+        input: b"GET /dir/index.html HTTP/1.1\r\nHost: example.org\r\n\r\n",
+        wanted: b"HTTP/1.1 401 Unauthorized\r\nDate: Thu, 01 Jan 1970 00:00:00 GMT\r\nWWW-Authenticate: Digest realm=\"r\", nonce=\"AQAAAAAAAAAAAAAAAAAAAAAAAAAAAAAAAAAA\", algorithm=MD5, qop=\"auth\"\r\nWWW-Authenticate: Digest realm=\"r\", nonce=\"AQAAAAAAAAAAAAAAAAAAAAAAAAAAAAAAAAAA\", algorithm=SHA-256-sess, qop=\"auth, auth-int\", userhash=true\r\nContent-Length: 13\r\n\r\nUnauthorized\n",
+    }
+}
+
+/// A hash that is no name's.
+fn unknown_hash() -> Exchange {
+    Exchange {
+        spaces: b"authspaces 1\n/ required SHA-256 http-auth@example.org\n",
+        store: b"authstore 1\nMufasa:http-auth@example.org:sha-256:7987c64c30e25f1b74be53f966b49b90f2808aa92faf9a00262392d7b4794232\n",
+        input: b"GET /dir/index.html HTTP/1.1\r\nHost: example.org\r\n\r\nGET /dir/index.html HTTP/1.1\r\nHost: example.org\r\nAuthorization: Digest username=\"91eb92f9be579fe43d3a1204aef388796722cd10e214ebe93123005a3885452f\", realm=\"http-auth@example.org\", uri=\"/dir/index.html\", algorithm=SHA-256, nonce=\"AQAAAAAAAAAAAAAAAAAAAAAAAAAAAAAAAAAA\", nc=00000001, cnonce=\"0a4f113b\", qop=auth, response=\"dd3586817418902404d6fed504c4bf69643a5f5b062cbf0c0fd0571a09a5bbc5\", userhash=true\r\n\r\n",
+        wanted: b"HTTP/1.1 401 Unauthorized\r\nDate: Thu, 01 Jan 1970 00:00:00 GMT\r\nWWW-Authenticate: Digest realm=\"http-auth@example.org\", nonce=\"AQAAAAAAAAAAAAAAAAAAAAAAAAAAAAAAAAAA\", algorithm=SHA-256, qop=\"auth\"\r\nContent-Length: 13\r\n\r\nUnauthorized\nHTTP/1.1 401 Unauthorized\r\nDate: Thu, 01 Jan 1970 00:00:00 GMT\r\nWWW-Authenticate: Digest realm=\"http-auth@example.org\", nonce=\"AQAAAAAAAAAAAAEAAAAAAAAAAAAAAAAAAAAA\", algorithm=SHA-256, qop=\"auth\"\r\nContent-Length: 13\r\n\r\nUnauthorized\n",
+    }
+}
+
+/// A `uri` that is not the target makes no call of the table.
+fn other_target() -> Exchange {
+    Exchange {
+        spaces: b"authspaces 1\n/ required SHA-256 http-auth@example.org\n",
+        store: b"authstore 1\nMufasa:http-auth@example.org:sha-256:7987c64c30e25f1b74be53f966b49b90f2808aa92faf9a00262392d7b4794232\n",
+        input: b"GET /dir/index.html HTTP/1.1\r\nHost: example.org\r\n\r\nGET /dir/index.html HTTP/1.1\r\nHost: example.org\r\nAuthorization: Digest username=\"Mufasa\", realm=\"http-auth@example.org\", uri=\"/b\", algorithm=SHA-256, nonce=\"AQAAAAAAAAAAAAAAAAAAAAAAAAAAAAAAAAAA\", nc=00000001, cnonce=\"0a4f113b\", qop=auth, response=\"ea4b8e7a17d48d7012d78d3a661a9124a9d803c28bf03a42164b3c6f6bdaa947\"\r\n\r\nGET /dir/index.html HTTP/1.1\r\nHost: example.org\r\n\r\n",
+        wanted: b"HTTP/1.1 401 Unauthorized\r\nDate: Thu, 01 Jan 1970 00:00:00 GMT\r\nWWW-Authenticate: Digest realm=\"http-auth@example.org\", nonce=\"AQAAAAAAAAAAAAAAAAAAAAAAAAAAAAAAAAAA\", algorithm=SHA-256, qop=\"auth\"\r\nContent-Length: 13\r\n\r\nUnauthorized\nHTTP/1.1 400 Bad Request\r\nDate: Thu, 01 Jan 1970 00:00:00 GMT\r\nContent-Length: 12\r\n\r\nBad Request\nHTTP/1.1 401 Unauthorized\r\nDate: Thu, 01 Jan 1970 00:00:00 GMT\r\nWWW-Authenticate: Digest realm=\"http-auth@example.org\", nonce=\"AQAAAAAAAAAAAAEAAAAAAAAAAAAAAAAAAAAA\", algorithm=SHA-256, qop=\"auth\"\r\nContent-Length: 13\r\n\r\nUnauthorized\n",
+    }
+}
+
 #[test]
 fn the_decision_is_answered_by_its_reply(rt: HostRuntime) -> Result<(), Fail> {
     let alloc = rt.alloc();
@@ -209,5 +239,14 @@ fn faulty_credentials_end_no_connection(rt: HostRuntime) -> Result<(), Fail> {
     let alloc = rt.alloc();
     check_exchange(&rt, alloc, &faulty_credentials(), b"faulty credentials")?;
     check_exchange(&rt, alloc, &encoded_name(), b"encoded name")?;
+    Ok(())
+}
+
+#[test]
+fn no_credentials_serve_for_others(rt: HostRuntime) -> Result<(), Fail> {
+    let alloc = rt.alloc();
+    check_exchange(&rt, alloc, &offers(), b"offers")?;
+    check_exchange(&rt, alloc, &unknown_hash(), b"unknown hash")?;
+    check_exchange(&rt, alloc, &other_target(), b"other target")?;
     Ok(())
 }
