@@ -2,7 +2,7 @@
 use crate::challenges::items_of_challenges;
 use crate::requests::{body_in_pieces, target_by_bytes};
 use crate::responses::body_of_chunks;
-use crate::stores::entries_found;
+use crate::stores::entries_of_store;
 use auth_grammar::OutOfMemory;
 use std::alloc::{AllocError, AllocFailed, Global};
 
@@ -76,7 +76,7 @@ impl Job {
             Job::Challenges => "items",
             Job::Response | Job::Body => "bytes of body",
             Job::Head => "bytes of target",
-            Job::Store => "entries found",
+            Job::Store => "entries",
         }
     }
 
@@ -87,7 +87,7 @@ impl Job {
             Job::Response => body_of_chunks(alloc, size),
             Job::Body => body_in_pieces(alloc, size),
             Job::Head => target_by_bytes(alloc, size),
-            Job::Store => entries_found(alloc, size),
+            Job::Store => entries_of_store(alloc, size),
         }
     }
 }

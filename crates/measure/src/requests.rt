@@ -1,4 +1,6 @@
 //! Requests that come in pieces.
+ghost use Rattle.std.specs.Prelude.{◌<◌};
+
 use crate::filler::add_times;
 use crate::job::Failure;
 use auth_grammar::Octets;

@@ -24,23 +24,25 @@ fn has_entry(alloc: Global, store: &Store, number: u32) -> Result<bool, AllocErr
     Ok(found.is_some())
 }
 
-/// How many of some of the entries, spread over all of them, are found.
-fn count_found(alloc: Global, store: &Store, entries: u32) -> Result<usize, AllocError> {
+/// Looks some of the entries up, spread over all of them.
+fn look_up(alloc: Global, store: &Store, entries: u32) -> Result<(), Failure> {
     let step = entries / LOOK_UPS + 1;
-    let mut count = 0;
     for number in (0..entries).step_by(step as usize) {
-        if has_entry(alloc, store, number)? {
-            count += 1;
+        if !has_entry(alloc, store, number)? {
+            return Err(Failure::Refused);
         }
     }
-    Ok(count)
+    Ok(())
 }
 
-/// Reads a store of so many entries, looks some of them up, and tells how many are found.
-pub(crate) fn entries_found(alloc: Global, entries: u32) -> Result<usize, Failure> {
+/// Reads a store of so many entries, looks some of them up, and tells how many it has.
+pub(crate) fn entries_of_store(alloc: Global, entries: u32) -> Result<usize, Failure> {
     let text = store_text(alloc, entries)?;
     match Store::read(alloc, text.as_bytes()) {
-        Ok(store) => Ok(count_found(alloc, &store, entries)?),
+        Ok(store) => {
+            look_up(alloc, &store, entries)?;
+            Ok(store.entries() as usize)
+        }
         Err(StoreError::OutOfMemory) => Err(Failure::OutOfMemory),
         Err(_) => Err(Failure::Refused),
     }
