@@ -17,6 +17,7 @@ trap 'test -z "$bridge" || kill "$bridge" 2>/dev/null; rm -rf "$scratch"' EXIT
 
 # Starts a bridge to the program over the site in this folder for so many connections, and sets its port.
 start_bridge() {
+    : >"$scratch/log"
     python3 checks/bridge.py "$program" "$1" "$2" >"$scratch/log" &
     bridge=$!
     tries=0
