@@ -2,6 +2,7 @@
 use Rattle.std.specs.Prelude.{◌≡◌, ◌⊎◌, ℕ, ⊤, List, [], ◌∷◌, ◌++◌, take, Option, Result, Ok, Err, codes, decimal}
 use Rattle.std.specs.Io.KnownBytes.{Appends}
 use Rattle.auth_io.specs.Causes.{Rose}
+use Rattle.origin_core.specs.Outside.{FilesState}
 use Rattle.authd.specs.Outside.{Objects, Views, IsUntouched}
 use Rattle.authd.specs.declared.failure.Failure.{Failure}
 use Rattle.authd.specs.declared.failure.Failure.TheVariants as failure
@@ -80,6 +81,18 @@ FailureSays v before now (failure.Fault fault) = FaultRose v before now fault
 FailureSays v before now (failure.Truncated at) = ⊤
 FailureSays v before now failure.Worn = ⊤
 FailureSays v before now failure.OutOfMemory = ⊤
+
+-- what the failure of a command that is given the link and the files alone says of them
+abbrev pub LinkFilesSay : {L F : Type 0} → (L → Option (List ℕ)) → (L → ℕ) → (L → ℕ) → (F → FilesState) → L → L → F → F → Failure → Type 0
+LinkFilesSay written reads writes files link link' f f' failure.Usage = (written link' ≡ written link) × ((files f').contents ≡ (files f).contents)
+LinkFilesSay written reads writes files link link' f f' (failure.Refused refusal) = (written link' ≡ written link) × ((files f').contents ≡ (files f).contents)
+LinkFilesSay written reads writes files link link' f f' (failure.Fault fault.Read) = Rose (reads link) (reads link')
+LinkFilesSay written reads writes files link link' f f' (failure.Fault fault.Write) = Rose (writes link) (writes link')
+LinkFilesSay written reads writes files link link' f f' (failure.Fault fault.File) = Rose ((files f).faults) ((files f').faults)
+LinkFilesSay written reads writes files link link' f f' (failure.Fault fault.Draw) = ⊥
+LinkFilesSay written reads writes files link link' f f' (failure.Truncated at) = ⊥
+LinkFilesSay written reads writes files link link' f f' failure.Worn = ⊥
+LinkFilesSay written reads writes files link link' f f' failure.OutOfMemory = ⊤
 
 -- the statuses of refusals
 abbrev pub IsRefusal : ℕ → Type 0

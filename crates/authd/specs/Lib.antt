@@ -6,5 +6,7 @@ pub mod Inputs
 pub mod Show
 pub mod Causes
 pub mod Loading
+pub mod Printing
+pub mod Check
 pub mod Pipe
 pub mod Run

@@ -18,6 +18,7 @@ pub(crate) enum Command<'w> {
     Usage,
     Show,
     Pipe(Place<'w>),
+    Check { store: &'w [u8], spaces: &'w [u8] },
 }
 
 /// A word isn't empty and doesn't begin with `-`.
@@ -45,6 +46,10 @@ pub(crate) fn command_of(words: &[String]) -> Command<'_>
     }
     match words {
         [name] if name.as_bytes() == b"show".as_slice() => Command::Show,
+        [name, store, spaces] if name.as_bytes() == b"check".as_slice() => Command::Check {
+            store: store.as_bytes(),
+            spaces: spaces.as_bytes(),
+        },
         [name, store, spaces, root] if name.as_bytes() == b"pipe".as_slice() => {
             Command::Pipe(Place {
                 store: store.as_bytes(),

@@ -2,10 +2,10 @@
 ghost use Rattle.std.specs.Prelude.{◌≡◌, ◌++◌, ◌∷◌, [], IfOk, OnOk, decimal};
 ghost use Rattle.authd.specs.Endings.{line_of, numbered_line, refusal_line, status_of};
 
+use crate::printing::push_number;
 use auth_grammar::{Octets, OutOfMemory};
 use connection_loop::ServeError;
 use cred_store::StoreError;
-use itoa::Buffer;
 use spaces_map::SpacesError;
 use std::alloc::Global;
 
@@ -166,8 +166,7 @@ fn numbered_line(alloc: Global, words: &[u8], number: u64) -> Result<Octets, Out
     ensures { IfOk result (λ line. line ≡ numbered_line words.now number) }
 {
     let mut line = Octets::of(alloc, words)?;
-    let mut buffer = Buffer::new();
-    line.extend(buffer.format(number).as_bytes())?;
+    push_number(&mut line, number)?;
     line.push(b'\n')?;
     Ok(line)
 }

@@ -1,6 +1,7 @@
 //! The program `authd`: HTTP authentication at a server.
 #![tactic(auto)]
 
+mod check;
 mod command;
 mod failure;
 mod input;

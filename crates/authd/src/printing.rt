@@ -1,12 +1,13 @@
 //! Writing whole texts.
-ghost use Rattle.std.specs.Prelude.{◌≡◌, ℕ, Err, IfErr, OnErr, OnOk, take};
+ghost use Rattle.std.specs.Prelude.{◌≡◌, ◌++◌, ℕ, Err, IfErr, OnErr, OnOk, decimal, take};
 ghost use Rattle.std.specs.Io.KnownBytes.{Appends};
 ghost use Rattle.auth_io.specs.Causes.{Rose};
 ghost use Rattle.authd.specs.Endings.{Tells, IsPrintFailure};
 
 use crate::failure::{Failure, Fault};
-use auth_grammar::OutOfMemory;
+use auth_grammar::{Octets, OutOfMemory};
 use auth_io::{Link, Sink, Wrote};
+use itoa::Buffer;
 
 /// Writes all of the text to the link.
 pub(crate) fn print<L: Link>(link: &mut L, text: &[u8]) -> Result<(), Failure>
@@ -42,4 +43,12 @@ pub(crate) fn tell<D: Sink>(diag: &mut D, text: &[u8]) -> Result<(), OutOfMemory
         }
     }
     Ok(())
+}
+
+/// Adds a number in decimal digits.
+pub(crate) fn push_number(text: &mut Octets, number: u64) -> Result<(), OutOfMemory>
+    ensures { OnOk result (text.new ≡ text.old ++ decimal number) }
+{
+    let mut buffer = Buffer::new();
+    text.extend(buffer.format(number).as_bytes())
 }

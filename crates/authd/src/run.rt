@@ -8,6 +8,7 @@ ghost use Rattle.origin_core.specs.Outside.{files_state};
 ghost use Rattle.authd.specs.Run.{Does};
 ghost use Rattle.authd.specs.Words.{command_of};
 
+use crate::check::check;
 use crate::command::{Command, command_of};
 use crate::failure::Failure;
 use crate::pipe::pipe;
@@ -63,6 +64,7 @@ fn perform<L: Link, F: Files, C: Clock, W: Words>(
         Command::Usage => Err(Failure::Usage),
         Command::Show => show(alloc, link),
         Command::Pipe(place) => pipe(alloc, &place, link, files, clock, random),
+        Command::Check { store, spaces } => check(alloc, store, spaces, link, files),
     }
 }
 

@@ -1,6 +1,7 @@
 //! What no clause says: the texts that the program prints, and that it ends well with memory to spare.
 mod pipe;
 mod rows;
+mod secrets;
 mod show;
 
 use crate::run::run;
@@ -29,7 +30,7 @@ const NONE: Failing = Failing {
 };
 
 /// What a run of the program left: its status, what it wrote on the link and on diag, and how often it read
-/// the link and asked the files.
+/// the link and asked the files, and what the file `s` holds.
 #[derive(Drop)]
 struct Ran {
     status: u8,
@@ -37,6 +38,7 @@ struct Ran {
     diag: Octets,
     reads: usize,
     asked: usize,
+    store: Option<Octets>,
 }
 
 /// A link with this input, of which the first read gives at most `piece` bytes.
@@ -54,6 +56,14 @@ fn link_of(alloc: Global, input: &[u8], piece: u32, failing: Failing) -> Result<
         failing_writes,
         999,
     )?)
+}
+
+/// What a file holds, where it is there.
+fn file_of(files: &MemFiles, name: &[u8]) -> Result<Option<Octets>, Fail> {
+    match files.get(name) {
+        Some(text) => Ok(Some(text.copy()?)),
+        None => Ok(None),
+    }
 }
 
 /// Runs the program over memory. Between the words stands a space each.
@@ -90,6 +100,7 @@ fn run_over(
         diag: Octets::of(alloc, diag.written())?,
         reads: link.reads().len(),
         asked: files.asked().len(),
+        store: file_of(&files, b"s")?,
     })
 }
 
@@ -103,7 +114,7 @@ fn check(rt: &impl Abort, ran: &Ran, status: u8, link: &[u8], diag: &[u8], row: 
 fn other_words_are_answered_with_usage(rt: HostRuntime) -> Result<(), Fail> {
     let alloc = rt.alloc();
     let lines =
-        "\n-\nshow -\nshow x\nShow\nshows\nshow \npipe\npipe a b\npipe a b c d\npipe a  c\npipe a b -c\n--help";
+        "\n-\nshow -\nshow x\nShow\nshows\nshow \npipe\npipe a b\npipe a b c d\npipe a  c\npipe a b -c\ncheck a\ncheck a b c\ncheck a -b\n--help";
     for words in lines.split('\n') {
         let mut link = link_of(alloc, b"a b=c", 2, NONE)?;
         let ran = run_over(alloc, words, &mut link, vec![in alloc]?, NONE)?;

@@ -1,0 +1,91 @@
+//! The commands about secrets. The digest is that of md5sum.
+use super::pipe::files_of;
+use super::{Failing, NONE, Ran, check, link_of, run_over};
+use std::alloc::Global;
+use std::test::Fail;
+
+fn store_text() -> &'static [u8] {
+    b"authstore 1\nMufasa:testrealm@host.com:md5:939e7578ed9e3c518a452acee763bce9\n"
+}
+
+fn spaces_text() -> &'static [u8] {
+    b"authspaces 1\n/ required MD5 testrealm@host.com\n"
+}
+
+/// Entries of `b` and of `a`, in this order.
+fn unsorted_text() -> &'static [u8] {
+    b"authstore 1\nb:r:md5:939e7578ed9e3c518a452acee763bce9\na:r:md5:939e7578ed9e3c518a452acee763bce9\n"
+}
+
+/// Runs a command with an input over these files.
+fn ran(
+    alloc: Global,
+    words: &str,
+    input: &[u8],
+    files: &[(&[u8], &[u8])],
+    failing: Failing,
+) -> Result<Ran, Fail> {
+    let contents = files_of(alloc, files)?;
+    let mut link = link_of(alloc, input, 7, failing)?;
+    run_over(alloc, words, &mut link, contents, failing)
+}
+
+#[test]
+fn check_counts_what_is_there(rt: HostRuntime) -> Result<(), Fail> {
+    let alloc = rt.alloc();
+    let files: [(&[u8], &[u8]); 2] = [(b"s", store_text()), (b"p", spaces_text())];
+    let whole = ran(alloc, "check s p", b"", &files, NONE)?;
+    check(&rt, &whole, 0, b"store 1 spaces 1\n", b"", b"a site");
+    let empty: [(&[u8], &[u8]); 2] = [(b"s", b"authstore 1\n"), (b"p", b"authspaces 1\n")];
+    let none = ran(alloc, "check s p", b"", &empty, NONE)?;
+    check(&rt, &none, 0, b"store 0 spaces 0\n", b"", b"an empty site");
+    Ok(())
+}
+
+#[test]
+fn check_names_the_first_fault(rt: HostRuntime) -> Result<(), Fail> {
+    let alloc = rt.alloc();
+    let words = "check s p";
+    let (store, spaces): ((&[u8], &[u8]), (&[u8], &[u8])) = (
+        (b"s", store_text()),
+        (b"p", spaces_text()),
+    );
+    let no_store = ran(alloc, words, b"", &[spaces], NONE)?;
+    check(&rt, &no_store, 3, b"", b"store absent\n", b"no store");
+    let no_spaces = ran(alloc, words, b"", &[store], NONE)?;
+    check(&rt, &no_spaces, 3, b"", b"spaces absent\n", b"no spaces");
+    // the store's text is refused before the file of the spaces is read
+    let unsorted = ran(alloc, words, b"", &[(b"s", unsorted_text())], NONE)?;
+    check(&rt, &unsorted, 3, b"", b"store line 3\n", b"`b` before `a`");
+    let bad = ran(
+        alloc,
+        words,
+        b"",
+        &[store, (b"p", b"authspaces 1\n/\n")],
+        NONE,
+    )?;
+    check(&rt, &bad, 3, b"", b"spaces line 2\n", b"a bad space");
+    for (ran, asked) in [(no_store, 1), (no_spaces, 2), (unsorted, 1), (bad, 2)] {
+        assert_eq!(rt; (ran.reads, ran.asked), (0, asked));
+    }
+    Ok(())
+}
+
+#[test]
+fn a_fault_ends_check_with_status_4(rt: HostRuntime) -> Result<(), Fail> {
+    let alloc = rt.alloc();
+    let files: [(&[u8], &[u8]); 2] = [(b"s", store_text()), (b"p", spaces_text())];
+    for file in 1..=2 {
+        let unread = ran(alloc, "check s p", b"", &files, Failing { file, ..NONE })?;
+        check(&rt, &unread, 4, b"", b"", b"a failing file");
+    }
+    let unwritten = ran(
+        alloc,
+        "check s p",
+        b"",
+        &files,
+        Failing { write: 2, ..NONE },
+    )?;
+    check(&rt, &unwritten, 4, b"sto", b"", b"a failing write");
+    Ok(())
+}
