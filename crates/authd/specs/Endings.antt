@@ -34,9 +34,11 @@ refusal_line (refusal.NotGrammar at) = numbered_line (codes "not grammar at ") a
 refusal_line (refusal.Twice at) = numbered_line (codes "twice at ") at
 refusal_line refusal.StoreAbsent = codes "store absent\n"
 refusal_line refusal.SpacesAbsent = codes "spaces absent\n"
+refusal_line refusal.HtdigestAbsent = codes "htdigest absent\n"
 refusal_line refusal.FileTooLong = codes "file too long\n"
 refusal_line (refusal.StoreLine line) = numbered_line (codes "store line ") line
 refusal_line (refusal.SpacesLine line) = numbered_line (codes "spaces line ") line
+refusal_line (refusal.HtdigestLine line) = numbered_line (codes "htdigest line ") line
 
 -- what is said of a failure, a line or nothing
 abbrev pub line_of : Failure → List ℕ

@@ -8,5 +8,7 @@ pub mod Causes
 pub mod Loading
 pub mod Printing
 pub mod Check
+pub mod Saving
+pub mod Import
 pub mod Pipe
 pub mod Run

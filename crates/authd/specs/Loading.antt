@@ -1,5 +1,5 @@
 -- Reading a site from its files: the store first, and the spaces where the store was read.
-use Rattle.std.specs.Prelude.{◌≡◌, ℕ, ⊤, List, Result, Ok, Err}
+use Rattle.std.specs.Prelude.{◌≡◌, ℕ, ⊤, List, [], Result, Ok, Err}
 use Rattle.auth_decide.specs.declared.site.Site.{Site}
 use Rattle.auth_io.specs.Files.{ReadAnswers, AddsAsked, read_entry, ReadRose}
 use Rattle.auth_io.specs.declared.files.FileAnswer.{FileAnswer}
@@ -60,6 +60,11 @@ abbrev pub IsStore : Result (List ℕ) Failure → Result (List Entry) Failure �
 IsStore (Err other) result = result ≡ Err other
 IsStore (Ok text) (Ok entries) = ReadsStore text (Ok entries)
 IsStore (Ok text) (Err other) = (error : StoreError) × ReadsStore text (Err error) × (other ≡ store_failure error)
+
+-- the store in an answer, which has no entries where there is no file, or why there is none
+abbrev pub IsKept : FileAnswer → Result (List Entry) Failure → Type 0
+IsKept file.Absent result = result ≡ Ok []
+IsKept answer result = IsStore (text_in refusal.StoreAbsent answer) result
 
 -- the spaces in a text, or why there are none
 abbrev pub IsSpaces : Result (List ℕ) Failure → Result (List Space) Failure → Type 0

@@ -10,6 +10,8 @@ pub data Command : Type 0 where
   Pipe : List ℕ → List ℕ → List ℕ → Command
   -- the names of a store and of spaces
   Check : List ℕ → List ℕ → Command
+  -- the names of a store and of a text of htdigest
+  Import : List ℕ → List ℕ → Command
 
 -- a word of the command line isn't empty and doesn't begin with `-`
 abbrev pub is_word : List ℕ → Bool
@@ -21,7 +23,10 @@ abbrev pub named : List (List ℕ) → Command
 named [] = Usage
 named (name ∷ []) = if bytes_eq name (codes "show") then Show else Usage
 named (name ∷ store ∷ []) = Usage
-named (name ∷ store ∷ spaces ∷ []) = if bytes_eq name (codes "check") then Check store spaces else Usage
+named (name ∷ first ∷ second ∷ []) =
+    if bytes_eq name (codes "check") then Check first second
+    else if bytes_eq name (codes "import") then Import first second
+    else Usage
 named (name ∷ store ∷ spaces ∷ root ∷ []) = if bytes_eq name (codes "pipe") then Pipe store spaces root else Usage
 named (name ∷ store ∷ spaces ∷ root ∷ word ∷ words) = Usage
 

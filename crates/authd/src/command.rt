@@ -19,6 +19,7 @@ pub(crate) enum Command<'w> {
     Show,
     Pipe(Place<'w>),
     Check { store: &'w [u8], spaces: &'w [u8] },
+    Import { store: &'w [u8], htdigest: &'w [u8] },
 }
 
 /// A word isn't empty and doesn't begin with `-`.
@@ -49,6 +50,10 @@ pub(crate) fn command_of(words: &[String]) -> Command<'_>
         [name, store, spaces] if name.as_bytes() == b"check".as_slice() => Command::Check {
             store: store.as_bytes(),
             spaces: spaces.as_bytes(),
+        },
+        [name, store, htdigest] if name.as_bytes() == b"import".as_slice() => Command::Import {
+            store: store.as_bytes(),
+            htdigest: htdigest.as_bytes(),
         },
         [name, store, spaces, root] if name.as_bytes() == b"pipe".as_slice() => {
             Command::Pipe(Place {

@@ -36,12 +36,16 @@ pub enum Refusal {
     StoreAbsent,
     /// The file of the spaces isn't there.
     SpacesAbsent,
+    /// The file of htdigest isn't there.
+    HtdigestAbsent,
     /// A file is longer than 16,777,216 bytes.
     FileTooLong,
     /// This line of the store is its first faulty one.
     StoreLine { line: u32 },
     /// This line of the spaces is their first faulty one.
     SpacesLine { line: u32 },
+    /// This line of the text of htdigest is its first faulty one.
+    HtdigestLine { line: u32 },
 }
 
 /// What failed. Its count of faults has risen.
@@ -154,9 +158,13 @@ impl Refusal {
             Refusal::Twice { at } => numbered_line(alloc, b"twice at ", at as u64),
             Refusal::StoreAbsent => Octets::of(alloc, b"store absent\n"),
             Refusal::SpacesAbsent => Octets::of(alloc, b"spaces absent\n"),
+            Refusal::HtdigestAbsent => Octets::of(alloc, b"htdigest absent\n"),
             Refusal::FileTooLong => Octets::of(alloc, b"file too long\n"),
             Refusal::StoreLine { line } => numbered_line(alloc, b"store line ", line as u64),
             Refusal::SpacesLine { line } => numbered_line(alloc, b"spaces line ", line as u64),
+            Refusal::HtdigestLine { line } => {
+                numbered_line(alloc, b"htdigest line ", line as u64)
+            }
         }
     }
 }

@@ -1,7 +1,7 @@
 //! Reading a site from its files.
-ghost use Rattle.std.specs.Prelude.{◌≡◌};
+ghost use Rattle.std.specs.Prelude.{◌≡◌, ◌≤◌};
 ghost use Rattle.auth_io.specs.declared.files.FileAnswer.{FileAnswer as Answer};
-ghost use Rattle.authd.specs.Loading.{IsSpaces, IsStore, LoadsSite, ReadsFile, text_in};
+ghost use Rattle.authd.specs.Loading.{IsKept, IsSpaces, IsStore, LoadsSite, ReadsFile, text_in};
 ghost use Rattle.origin_core.specs.Outside.{files_state};
 
 use crate::command::Place;
@@ -30,11 +30,42 @@ fn text_in(absent: Refusal, answer: FileAnswer) -> Result<Octets, Failure>
 }
 
 /// The text of a file, where it is there.
-fn text_of<F: Files>(files: &mut F, name: &[u8], absent: Refusal) -> Result<Octets, Failure>
-    ensures { let at = files_state F.contents F.asked F.faults in
+pub(crate) fn text_of<F: Files>(
+    files: &mut F,
+    name: &[u8],
+    absent: Refusal,
+) -> Result<Octets, Failure>
+    ensures reads { let at = files_state F.contents F.asked F.faults in
         (answer : Answer) × ReadsFile (at files.old) (at files.new) name.now answer × (result ≡ text_in absent answer) }
+    ensures later { F.faults files.old ≤ F.faults files.new }
 {
     text_in(absent, files.read(name, FILE_LIMIT))
+}
+
+/// The store in an answer. Where there is no file it has no entries.
+fn store_in(alloc: Global, answer: FileAnswer) -> Result<Store, Failure>
+    ensures { IsKept answer result }
+{
+    match answer {
+        FileAnswer::Absent => Ok(Store::new(alloc)),
+        FileAnswer::Found(text) => Ok(Store::read(alloc, text.bytes())?),
+        FileAnswer::TooLarge => Err(Failure::Refused(Refusal::FileTooLong)),
+        FileAnswer::Failed => Err(Failure::Fault(Fault::File)),
+        FileAnswer::OutOfMemory => Err(Failure::OutOfMemory),
+    }
+}
+
+/// The store in a file that may be absent.
+pub(crate) fn kept_store<F: Files>(
+    alloc: Global,
+    files: &mut F,
+    name: &[u8],
+) -> Result<Store, Failure>
+    ensures reads { let at = files_state F.contents F.asked F.faults in
+        (answer : Answer) × ReadsFile (at files.old) (at files.new) name.now answer × IsKept answer result }
+    ensures later { F.faults files.old ≤ F.faults files.new }
+{
+    store_in(alloc, files.read(name, FILE_LIMIT))
 }
 
 /// The store in a file.

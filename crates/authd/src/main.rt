@@ -4,11 +4,13 @@
 mod check;
 mod command;
 mod failure;
+mod import;
 mod input;
 mod loading;
 mod pipe;
 mod printing;
 mod run;
+mod saving;
 mod show;
 #[cfg(test)]
 mod tests;

@@ -11,6 +11,7 @@ ghost use Rattle.authd.specs.Words.{command_of};
 use crate::check::check;
 use crate::command::{Command, command_of};
 use crate::failure::Failure;
+use crate::import::import;
 use crate::pipe::pipe;
 use crate::printing::tell;
 use crate::show::show;
@@ -65,6 +66,7 @@ fn perform<L: Link, F: Files, C: Clock, W: Words>(
         Command::Show => show(alloc, link),
         Command::Pipe(place) => pipe(alloc, &place, link, files, clock, random),
         Command::Check { store, spaces } => check(alloc, store, spaces, link, files),
+        Command::Import { store, htdigest } => import(alloc, store, htdigest, link, files),
     }
 }
 

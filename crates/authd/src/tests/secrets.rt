@@ -2,6 +2,7 @@
 use super::pipe::files_of;
 use super::{Failing, NONE, Ran, check, link_of, run_over};
 use std::alloc::Global;
+use std::process::Abort;
 use std::test::Fail;
 
 fn store_text() -> &'static [u8] {
@@ -87,5 +88,77 @@ fn a_fault_ends_check_with_status_4(rt: HostRuntime) -> Result<(), Fail> {
         Failing { write: 2, ..NONE },
     )?;
     check(&rt, &unwritten, 4, b"sto", b"", b"a failing write");
+    Ok(())
+}
+
+fn htdigest_text() -> &'static [u8] {
+    b"Mufasa:testrealm@host.com:939e7578ed9e3c518a452acee763bce9"
+}
+
+/// What the file of the store holds, or nothing.
+fn stored(ran: &Ran) -> &[u8] {
+    match &ran.store {
+        Some(text) => text.bytes(),
+        None => b"",
+    }
+}
+
+/// A run that left no file of a store.
+fn check_absent(rt: &impl Abort, ran: &Ran, row: &[u8]) {
+    assert!(rt; ran.store.is_none(), "store of {row:?}");
+}
+
+#[test]
+fn import_makes_a_store(rt: HostRuntime) -> Result<(), Fail> {
+    let alloc = rt.alloc();
+    let fresh = ran(alloc, "import s h", b"", &[(b"h", htdigest_text())], NONE)?;
+    check(&rt, &fresh, 0, b"imported 1\n", b"", b"no store");
+    assert_eq!(rt; stored(&fresh), store_text());
+    let files: [(&[u8], &[u8]); 2] = [(b"s", store_text()), (b"h", b"\n")];
+    let same = ran(alloc, "import s h", b"", &files, NONE)?;
+    check(&rt, &same, 0, b"imported 0\n", b"", b"no pair");
+    assert_eq!(rt; stored(&same), store_text());
+    Ok(())
+}
+
+#[test]
+fn import_refuses_the_store_first(rt: HostRuntime) -> Result<(), Fail> {
+    let alloc = rt.alloc();
+    let words = "import s h";
+    let unsorted = ran(alloc, words, b"", &[(b"s", unsorted_text())], NONE)?;
+    check(&rt, &unsorted, 3, b"", b"store line 3\n", b"`b` before `a`");
+    assert_eq!(rt; (stored(&unsorted), unsorted.asked), (unsorted_text(), 1));
+    let absent = ran(alloc, words, b"", &[], NONE)?;
+    check(&rt, &absent, 3, b"", b"htdigest absent\n", b"no files");
+    check_absent(&rt, &absent, b"no files");
+    let bad = ran(alloc, words, b"", &[(b"h", b"Mufasa\n")], NONE)?;
+    check(&rt, &bad, 3, b"", b"htdigest line 1\n", b"no pair");
+    check_absent(&rt, &bad, b"no pair");
+    let large = vec![in alloc; 0; 16_777_217]?;
+    let long = ran(alloc, words, b"", &[(b"h", large.as_slice())], NONE)?;
+    check(&rt, &long, 3, b"", b"file too long\n", b"a large text");
+    check_absent(&rt, &long, b"a large text");
+    Ok(())
+}
+
+#[test]
+fn a_fault_ends_import_with_status_4(rt: HostRuntime) -> Result<(), Fail> {
+    let alloc = rt.alloc();
+    let files: [(&[u8], &[u8]); 1] = [(b"h", htdigest_text())];
+    // the third call of the files is the replace
+    for file in 1..=3 {
+        let failed = ran(alloc, "import s h", b"", &files, Failing { file, ..NONE })?;
+        check(&rt, &failed, 4, b"", b"", b"a failing file");
+        check_absent(&rt, &failed, b"a failing file");
+    }
+    let unwritten = ran(
+        alloc,
+        "import s h",
+        b"",
+        &files,
+        Failing { write: 2, ..NONE },
+    )?;
+    check(&rt, &unwritten, 4, b"imp", b"", b"a failing write");
+    assert_eq!(rt; stored(&unwritten), store_text());
     Ok(())
 }
