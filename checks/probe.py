@@ -53,8 +53,9 @@ def main():
         listener.settimeout(SECONDS)
         server = threading.Thread(target=challenge, args=(listener, kind, heads), daemon=True)
         server.start()
-        words = ["curl", "--silent", "--max-time", str(SECONDS), "--noproxy", "*", "--digest", "--user", f"{NAME}:{PASSWORD}"]
-        subprocess.run([*words, f"http://127.0.0.1:{listener.getsockname()[1]}{TARGET}"], check=False)
+        limits = ["--silent", "--max-time", str(SECONDS), "--noproxy", "*"]
+        url = f"http://127.0.0.1:{listener.getsockname()[1]}{TARGET}"
+        subprocess.run(["curl", *limits, "--digest", "--user", f"{NAME}:{PASSWORD}", url], check=False)
         server.join(SECONDS)
     if len(heads) < 2:
         return "curl doesn't answer it"

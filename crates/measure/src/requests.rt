@@ -44,7 +44,7 @@ pub(crate) fn body_in_pieces(alloc: Global, bytes: u32) -> Result<usize, Failure
     Ok(request.body.len())
 }
 
-/// Reads a request with a head of so many bytes byte by byte, and tells the target's length.
+/// Reads a request with a head of so many bytes, at least 27, byte by byte, and tells the target's length.
 pub(crate) fn target_by_bytes(alloc: Global, bytes: u32) -> Result<usize, Failure> {
     let mut text = Octets::of(alloc, b"GET /")?;
     add_times(&mut text, b"x", bytes.saturating_sub(27))?;
