@@ -10,5 +10,7 @@ pub mod Printing
 pub mod Check
 pub mod Saving
 pub mod Import
+pub mod Passwords
+pub mod Passwd
 pub mod Pipe
 pub mod Run

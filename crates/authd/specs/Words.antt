@@ -12,6 +12,8 @@ pub data Command : Type 0 where
   Check : List ℕ → List ℕ → Command
   -- the names of a store and of a text of htdigest
   Import : List ℕ → List ℕ → Command
+  -- the name of a store, and a user's name, realm and kind
+  Passwd : List ℕ → List ℕ → List ℕ → List ℕ → Command
 
 -- a word of the command line isn't empty and doesn't begin with `-`
 abbrev pub is_word : List ℕ → Bool
@@ -28,7 +30,8 @@ named (name ∷ first ∷ second ∷ []) =
     else if bytes_eq name (codes "import") then Import first second
     else Usage
 named (name ∷ store ∷ spaces ∷ root ∷ []) = if bytes_eq name (codes "pipe") then Pipe store spaces root else Usage
-named (name ∷ store ∷ spaces ∷ root ∷ word ∷ words) = Usage
+named (command ∷ store ∷ name ∷ realm ∷ kind ∷ []) = if bytes_eq command (codes "passwd") then Passwd store name realm kind else Usage
+named (command ∷ store ∷ name ∷ realm ∷ kind ∷ word ∷ words) = Usage
 
 abbrev pub command_of : List (List ℕ) → Command
 command_of words = if list_all is_word words then named words else Usage

@@ -12,6 +12,15 @@ pub(crate) struct Place<'w> {
     pub(crate) root: &'w [u8],
 }
 
+/// Whose secret is to be set: the name of the file of the store, a name, a realm and a kind.
+#[derive(Clone, Copy)]
+pub(crate) struct Account<'w> {
+    pub(crate) store: &'w [u8],
+    pub(crate) name: &'w [u8],
+    pub(crate) realm: &'w [u8],
+    pub(crate) kind: &'w [u8],
+}
+
 /// What the words of the command line ask for.
 #[derive(Clone, Copy)]
 pub(crate) enum Command<'w> {
@@ -20,6 +29,7 @@ pub(crate) enum Command<'w> {
     Pipe(Place<'w>),
     Check { store: &'w [u8], spaces: &'w [u8] },
     Import { store: &'w [u8], htdigest: &'w [u8] },
+    Passwd(Account<'w>),
 }
 
 /// A word isn't empty and doesn't begin with `-`.
@@ -60,6 +70,14 @@ pub(crate) fn command_of(words: &[String]) -> Command<'_>
                 store: store.as_bytes(),
                 spaces: spaces.as_bytes(),
                 root: root.as_bytes(),
+            })
+        }
+        [command, store, name, realm, kind] if command.as_bytes() == b"passwd".as_slice() => {
+            Command::Passwd(Account {
+                store: store.as_bytes(),
+                name: name.as_bytes(),
+                realm: realm.as_bytes(),
+                kind: kind.as_bytes(),
             })
         }
         _ => Command::Usage,

@@ -7,6 +7,8 @@ mod failure;
 mod import;
 mod input;
 mod loading;
+mod passwd;
+mod password;
 mod pipe;
 mod printing;
 mod run;

@@ -12,6 +12,7 @@ use crate::check::check;
 use crate::command::{Command, command_of};
 use crate::failure::Failure;
 use crate::import::import;
+use crate::passwd::passwd;
 use crate::pipe::pipe;
 use crate::printing::tell;
 use crate::show::show;
@@ -67,6 +68,7 @@ fn perform<L: Link, F: Files, C: Clock, W: Words>(
         Command::Pipe(place) => pipe(alloc, &place, link, files, clock, random),
         Command::Check { store, spaces } => check(alloc, store, spaces, link, files),
         Command::Import { store, htdigest } => import(alloc, store, htdigest, link, files),
+        Command::Passwd(account) => passwd(alloc, &account, link, files),
     }
 }
 

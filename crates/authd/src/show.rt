@@ -59,7 +59,7 @@ fn lines_of(alloc: Global, text: &[u8]) -> Result<OctetsList, OutOfMemory>
 }
 
 /// A line without the one CR at its end.
-fn without_return(line: &[u8]) -> &[u8]
+pub(crate) fn without_return(line: &[u8]) -> &[u8]
     ensures { result.now ≡ strip_carriage_return line.now }
 {
     line.strip_suffix(b"\r").unwrap_or(line)

@@ -114,7 +114,7 @@ fn check(rt: &impl Abort, ran: &Ran, status: u8, link: &[u8], diag: &[u8], row: 
 fn other_words_are_answered_with_usage(rt: HostRuntime) -> Result<(), Fail> {
     let alloc = rt.alloc();
     let lines =
-        "\n-\nshow -\nshow x\nShow\nshows\nshow \npipe\npipe a b\npipe a b c d\npipe a  c\npipe a b -c\ncheck a\ncheck a b c\ncheck a -b\nimport a\nimport a b c\n--help";
+        "\n-\nshow -\nshow x\nShow\nshows\nshow \npipe\npipe a b\npipe a b c d\npipe a  c\npipe a b -c\ncheck a\ncheck a b c\ncheck a -b\nimport a\nimport a b c\npasswd a b c\npasswd a b c md5 d\npasswd a b c MD5\npasswd a b c scram-sha-256\npasswd a b:b c md5\npasswd a b c:c md5\n--help";
     for words in lines.split('\n') {
         let mut link = link_of(alloc, b"a b=c", 2, NONE)?;
         let ran = run_over(alloc, words, &mut link, vec![in alloc]?, NONE)?;

@@ -19,8 +19,8 @@ pub(crate) fn kind_name(alg: Algorithm) -> &'static [u8]
     }
 }
 
-/// The algorithm of a kind's name.
-pub(crate) fn algorithm_named(kind: &[u8]) -> Option<Algorithm>
+/// The algorithm of a kind's name in a store, if it is one.
+pub fn algorithm_named(kind: &[u8]) -> Option<Algorithm>
     ensures some { IfSome result (λ alg. kind.now ≡ kind_name alg) }
     ensures none { IfNone result ((alg : Algorithm) → kind.now ≢ kind_name alg) }
 {

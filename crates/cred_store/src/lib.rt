@@ -15,6 +15,7 @@ mod text;
 
 pub use entry::{Entry, Secret};
 pub use error::{LineFault, StoreError};
+pub use kind::algorithm_named;
 pub use laws::{changes_what_is_named, has_one_first_fault};
 pub use round_trip::reads_what_is_written;
 pub use store::Store;

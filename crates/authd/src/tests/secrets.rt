@@ -1,6 +1,7 @@
 //! The commands about secrets. The digest is that of md5sum.
 use super::pipe::files_of;
 use super::{Failing, NONE, Ran, check, link_of, run_over};
+use auth_grammar::Octets;
 use std::alloc::Global;
 use std::process::Abort;
 use std::test::Fail;
@@ -159,6 +160,98 @@ fn a_fault_ends_import_with_status_4(rt: HostRuntime) -> Result<(), Fail> {
         Failing { write: 2, ..NONE },
     )?;
     check(&rt, &unwritten, 4, b"imp", b"", b"a failing write");
+    assert_eq!(rt; stored(&unwritten), store_text());
+    Ok(())
+}
+
+fn passwd_words() -> &'static str {
+    "passwd s Mufasa testrealm@host.com md5"
+}
+
+/// A password of so many letters, with an end.
+fn letters(alloc: Global, count: usize, end: &[u8]) -> Result<Octets, Fail> {
+    let mut line = Octets::from_vec(vec![in alloc; b'a'; count]?);
+    line.extend(end)?;
+    Ok(line)
+}
+
+#[test]
+fn passwd_sets_the_secret_of_the_first_line(rt: HostRuntime) -> Result<(), Fail> {
+    let alloc = rt.alloc();
+    for input in [
+        b"Circle Of Life\n".as_slice(),
+        b"Circle Of Life\r\n",
+        b"Circle Of Life",
+        b"Circle Of Life\nHakuna Matata\n",
+    ] {
+        let set = ran(alloc, passwd_words(), input, &[], NONE)?;
+        let line = b"set Mufasa testrealm@host.com md5\n";
+        check(&rt, &set, 0, line, b"", input);
+        assert_eq!(rt; stored(&set), store_text());
+    }
+    Ok(())
+}
+
+#[test]
+fn passwd_takes_1_to_128_printable_bytes(rt: HostRuntime) -> Result<(), Fail> {
+    let alloc = rt.alloc();
+    for end in [b"".as_slice(), b"\n", b"\r\n"] {
+        let most = letters(alloc, 128, end)?;
+        let set = ran(alloc, passwd_words(), most.bytes(), &[], NONE)?;
+        assert_eq!(rt; set.status, 0);
+        for count in [0, 129, 130, 200] {
+            let line = letters(alloc, count, end)?;
+            let refused = ran(alloc, passwd_words(), line.bytes(), &[], NONE)?;
+            check(
+                &rt,
+                &refused,
+                2,
+                b"",
+                b"usage: authd COMMAND WORDS\n",
+                line.bytes(),
+            );
+            check_absent(&rt, &refused, line.bytes());
+            assert_eq!(rt; refused.asked, 0);
+        }
+    }
+    for line in [b"a\tb\n".as_slice(), b"a\r", b"a\r\r\n", b"\xC3\xA4\n"] {
+        let refused = ran(alloc, passwd_words(), line, &[], NONE)?;
+        assert_eq!(rt; (refused.status, refused.asked), (2, 0), "{line:?}");
+    }
+    Ok(())
+}
+
+#[test]
+fn passwd_leaves_a_store_that_is_refused(rt: HostRuntime) -> Result<(), Fail> {
+    let alloc = rt.alloc();
+    let refused = ran(
+        alloc,
+        passwd_words(),
+        b"a\n",
+        &[(b"s", unsorted_text())],
+        NONE,
+    )?;
+    check(&rt, &refused, 3, b"", b"store line 3\n", b"`b` before `a`");
+    assert_eq!(rt; stored(&refused), unsorted_text());
+    Ok(())
+}
+
+#[test]
+fn a_fault_ends_passwd_with_status_4(rt: HostRuntime) -> Result<(), Fail> {
+    let alloc = rt.alloc();
+    // the second call of the files is the replace
+    for failing in [
+        Failing { read: 2, ..NONE },
+        Failing { file: 1, ..NONE },
+        Failing { file: 2, ..NONE },
+    ] {
+        let failed = ran(alloc, passwd_words(), b"ab\n", &[], failing)?;
+        check(&rt, &failed, 4, b"", b"", b"a fault");
+        check_absent(&rt, &failed, b"a fault");
+    }
+    let failing = Failing { write: 2, ..NONE };
+    let unwritten = ran(alloc, passwd_words(), b"Circle Of Life\n", &[], failing)?;
+    check(&rt, &unwritten, 4, b"set", b"", b"a failing write");
     assert_eq!(rt; stored(&unwritten), store_text());
     Ok(())
 }
