@@ -1,5 +1,5 @@
 -- What was printed.
-use Rattle.std.specs.Prelude.{◌≡◌, ◌⊎◌, ℕ, ⊤, List, take, Option, Ok, Err}
+use Rattle.std.specs.Prelude.{◌≡◌, ◌⊎◌, ℕ, List, take, Option, Ok, Err}
 use Rattle.std.specs.Io.KnownBytes.{Appends}
 use Rattle.authd.specs.Endings.{Ending}
 use Rattle.authd.specs.declared.failure.Failure.TheVariants as failure
