@@ -2,6 +2,8 @@
 //! those of Python's `hashlib`.
 use super::pipe::files_of;
 use super::{NONE, check, link_of, run_over};
+use auth_grammar::Octets;
+use auth_io::MemLink;
 use std::alloc::Global;
 use std::process::Abort;
 use std::test::Fail;
@@ -15,7 +17,43 @@ struct Exchange {
     wanted: &'static [u8],
 }
 
-/// Serves an exchange that is cut after every byte in turn, each over a new site.
+/// Serves an exchange over a new site, and checks what was written.
+fn check_over(
+    rt: &impl Abort,
+    alloc: Global,
+    exchange: &Exchange,
+    mut link: MemLink,
+    row: &[u8],
+) -> Result<(), Fail> {
+    let contents = files_of(
+        alloc,
+        &[
+            (b"store", exchange.store),
+            (b"spaces", exchange.spaces),
+            (b"www/dir/index.html", b"hello\n"),
+        ],
+    )?;
+    let ran = run_over(alloc, "pipe store spaces www", &mut link, contents, NONE)?;
+    check(rt, &ran, 0, exchange.wanted, b"", row);
+    Ok(())
+}
+
+/// A link that gives and takes one byte at a time.
+fn slow_link_of(alloc: Global, input: &[u8]) -> Result<MemLink, Fail> {
+    let none = vec![in alloc]?;
+    let none_too = vec![in alloc]?;
+    Ok(MemLink::new(
+        alloc,
+        Octets::of(alloc, input)?,
+        vec![in alloc; 1; 2000]?,
+        vec![in alloc; 1; 2000]?,
+        none,
+        none_too,
+        3000,
+    )?)
+}
+
+/// Serves an exchange that is cut after every byte in turn, and one that comes and goes byte by byte.
 fn check_exchange(
     rt: &impl Abort,
     alloc: Global,
@@ -23,19 +61,11 @@ fn check_exchange(
     row: &[u8],
 ) -> Result<(), Fail> {
     for cut in 1..=exchange.input.len() {
-        let contents = files_of(
-            alloc,
-            &[
-                (b"store", exchange.store),
-                (b"spaces", exchange.spaces),
-                (b"www/dir/index.html", b"hello\n"),
-            ],
-        )?;
-        let mut link = link_of(alloc, exchange.input, cut as u32, NONE)?;
-        let ran = run_over(alloc, "pipe store spaces www", &mut link, contents, NONE)?;
-        check(rt, &ran, 0, exchange.wanted, b"", row);
+        let link = link_of(alloc, exchange.input, cut as u32, NONE)?;
+        check_over(rt, alloc, exchange, link, row)?;
     }
-    Ok(())
+    let link = slow_link_of(alloc, exchange.input)?;
+    check_over(rt, alloc, exchange, link, row)
 }
 
 /// A client that adds fields of its own.
@@ -188,6 +218,26 @@ fn other_target() -> Exchange {
     }
 }
 
+/// A challenge, the file, and the same request sent again.
+fn one_count() -> Exchange {
+    Exchange {
+        spaces: b"authspaces 1\n/ required SHA-256 http-auth@example.org\n",
+        store: b"authstore 1\nMufasa:http-auth@example.org:sha-256:7987c64c30e25f1b74be53f966b49b90f2808aa92faf9a00262392d7b4794232\n",
+        input: b"GET /dir/index.html HTTP/1.1\r\nHost: example.org\r\n\r\nGET /dir/index.html HTTP/1.1\r\nHost: example.org\r\nAuthorization: Digest username=\"Mufasa\", realm=\"http-auth@example.org\", uri=\"/dir/index.html\", algorithm=SHA-256, nonce=\"AQAAAAAAAAAAAAAAAAAAAAAAAAAAAAAAAAAA\", nc=00000001, cnonce=\"0a4f113b\", qop=auth, response=\"dd3586817418902404d6fed504c4bf69643a5f5b062cbf0c0fd0571a09a5bbc5\"\r\n\r\nGET /dir/index.html HTTP/1.1\r\nHost: example.org\r\nAuthorization: Digest username=\"Mufasa\", realm=\"http-auth@example.org\", uri=\"/dir/index.html\", algorithm=SHA-256, nonce=\"AQAAAAAAAAAAAAAAAAAAAAAAAAAAAAAAAAAA\", nc=00000001, cnonce=\"0a4f113b\", qop=auth, response=\"dd3586817418902404d6fed504c4bf69643a5f5b062cbf0c0fd0571a09a5bbc5\"\r\n\r\n",
+        wanted: b"HTTP/1.1 401 Unauthorized\r\nDate: Thu, 01 Jan 1970 00:00:00 GMT\r\nWWW-Authenticate: Digest realm=\"http-auth@example.org\", nonce=\"AQAAAAAAAAAAAAAAAAAAAAAAAAAAAAAAAAAA\", algorithm=SHA-256, qop=\"auth\"\r\nContent-Length: 13\r\n\r\nUnauthorized\nHTTP/1.1 200 OK\r\nDate: Thu, 01 Jan 1970 00:00:00 GMT\r\nAuthentication-Info: qop=auth, rspauth=\"ceb5ce9c7c3fe2276ede765b72eeb2d579a981e78237e1fe680815e990cce089\", cnonce=\"0a4f113b\", nc=00000001\r\nContent-Length: 6\r\n\r\nhello\nHTTP/1.1 401 Unauthorized\r\nDate: Thu, 01 Jan 1970 00:00:00 GMT\r\nWWW-Authenticate: Digest realm=\"http-auth@example.org\", nonce=\"AQAAAAAAAAAAAAEAAAAAAAAAAAAAAAAAAAAA\", stale=true, algorithm=SHA-256, qop=\"auth\"\r\nContent-Length: 13\r\n\r\nUnauthorized\n",
+    }
+}
+
+/// A message with two hosts.
+fn two_hosts() -> Exchange {
+    Exchange {
+        spaces: b"authspaces 1\n/ required SHA-256 http-auth@example.org\n",
+        store: b"authstore 1\nMufasa:http-auth@example.org:sha-256:7987c64c30e25f1b74be53f966b49b90f2808aa92faf9a00262392d7b4794232\n",
+        input: b"GET / HTTP/1.1\r\nHost: a\r\nHost: b\r\n\r\n",
+        wanted: b"HTTP/1.1 400 Bad Request\r\nDate: Thu, 01 Jan 1970 00:00:00 GMT\r\nContent-Length: 12\r\nConnection: close\r\n\r\nBad Request\n",
+    }
+}
+
 #[test]
 fn the_decision_is_answered_by_its_reply(rt: HostRuntime) -> Result<(), Fail> {
     let alloc = rt.alloc();
@@ -195,6 +245,14 @@ fn the_decision_is_answered_by_its_reply(rt: HostRuntime) -> Result<(), Fail> {
     check_exchange(&rt, alloc, &continued_put(), b"continued put")?;
     check_exchange(&rt, alloc, &another_method(), b"another method")?;
     check_exchange(&rt, alloc, &open_put(), b"open put")?;
+    check_exchange(&rt, alloc, &two_hosts(), b"two hosts")?;
+    Ok(())
+}
+
+#[test]
+fn a_count_serves_once(rt: HostRuntime) -> Result<(), Fail> {
+    let alloc = rt.alloc();
+    check_exchange(&rt, alloc, &one_count(), b"one count")?;
     Ok(())
 }
 
@@ -248,5 +306,28 @@ fn no_credentials_serve_for_others(rt: HostRuntime) -> Result<(), Fail> {
     check_exchange(&rt, alloc, &offers(), b"offers")?;
     check_exchange(&rt, alloc, &unknown_hash(), b"unknown hash")?;
     check_exchange(&rt, alloc, &other_target(), b"other target")?;
+    Ok(())
+}
+
+/// The reply to a head that is too long.
+fn too_long() -> &'static [u8] {
+    b"HTTP/1.1 431 Request Header Fields Too Large\r\nDate: Thu, 01 Jan 1970 00:00:00 GMT\r\nContent-Length: 32\r\nConnection: close\r\n\r\nRequest Header Fields Too Large\n"
+}
+
+#[test]
+fn a_head_of_16384_bytes_without_an_end_is_refused(rt: HostRuntime) -> Result<(), Fail> {
+    let alloc = rt.alloc();
+    let mut input = Octets::of(alloc, b"GET /")?;
+    for _ in 0..16_379 {
+        input.push(b'a')?;
+    }
+    let exchange = everyday_client();
+    let contents = files_of(
+        alloc,
+        &[(b"store", exchange.store), (b"spaces", exchange.spaces)],
+    )?;
+    let mut link = link_of(alloc, input.bytes(), 7, NONE)?;
+    let ran = run_over(alloc, "pipe store spaces www", &mut link, contents, NONE)?;
+    check(&rt, &ran, 0, too_long(), b"", b"a long head");
     Ok(())
 }
