@@ -60,8 +60,8 @@ fn check_exchange(
     exchange: &Exchange,
     row: &[u8],
 ) -> Result<(), Fail> {
-    for cut in 1..=exchange.input.len() {
-        let link = link_of(alloc, exchange.input, cut as u32, NONE)?;
+    for cut in 1..=u32::try_from(exchange.input.len())? {
+        let link = link_of(alloc, exchange.input, cut, NONE)?;
         check_over(rt, alloc, exchange, link, row)?;
     }
     let link = slow_link_of(alloc, exchange.input)?;
