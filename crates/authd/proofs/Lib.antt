@@ -1,4 +1,4 @@
-pub mod Lines
+pub mod Cuts
 pub mod Pieces
 pub mod Secrets
 pub mod Sites

@@ -42,16 +42,23 @@ pub(crate) fn text_of<F: Files>(
     text_in(absent, files.read(name, FILE_LIMIT))
 }
 
+/// The store in a text, where the text is there.
+fn store_in(alloc: Global, text: Result<Octets, Failure>) -> Result<Store, Failure>
+    ensures { IsStore text result }
+{
+    match text {
+        Ok(text) => Ok(Store::read(alloc, text.bytes())?),
+        Err(failure) => Err(failure),
+    }
+}
+
 /// The store in an answer. Where there is no file it has no entries.
-fn store_in(alloc: Global, answer: FileAnswer) -> Result<Store, Failure>
+fn store_or_new(alloc: Global, answer: FileAnswer) -> Result<Store, Failure>
     ensures { IsKept answer result }
 {
     match answer {
         FileAnswer::Absent => Ok(Store::new(alloc)),
-        FileAnswer::Found(text) => Ok(Store::read(alloc, text.bytes())?),
-        FileAnswer::TooLarge => Err(Failure::Refused(Refusal::FileTooLong)),
-        FileAnswer::Failed => Err(Failure::Fault(Fault::File)),
-        FileAnswer::OutOfMemory => Err(Failure::OutOfMemory),
+        answer => store_in(alloc, text_in(Refusal::StoreAbsent, answer)),
     }
 }
 
@@ -65,7 +72,7 @@ pub(crate) fn kept_store<F: Files>(
         (answer : Answer) × ReadsFile (at files.old) (at files.new) name.now answer × IsKept answer result }
     ensures later { F.faults files.old ≤ F.faults files.new }
 {
-    store_in(alloc, files.read(name, FILE_LIMIT))
+    store_or_new(alloc, files.read(name, FILE_LIMIT))
 }
 
 /// The store in a file.
@@ -73,8 +80,7 @@ fn store_of<F: Files>(alloc: Global, files: &mut F, name: &[u8]) -> Result<Store
     ensures { let at = files_state F.contents F.asked F.faults in
         (answer : Answer) × ReadsFile (at files.old) (at files.new) name.now answer × IsStore (text_in Refusal.StoreAbsent answer) result }
 {
-    let text = text_of(files, name, Refusal::StoreAbsent)?;
-    Ok(Store::read(alloc, text.bytes())?)
+    store_in(alloc, text_of(files, name, Refusal::StoreAbsent))
 }
 
 /// The spaces in a file.

@@ -6,6 +6,7 @@ mod command;
 mod failure;
 mod import;
 mod input;
+mod lines;
 mod loading;
 mod passwd;
 mod password;

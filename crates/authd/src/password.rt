@@ -6,7 +6,7 @@ ghost use Rattle.auth_io.specs.Causes.{Rose};
 ghost use Rattle.authd.specs.Passwords.{ReadsByte, ReadsLine, ReadsPassword, is_password};
 
 use crate::failure::{Failure, Fault};
-use crate::show::without_return;
+use crate::lines::without_return;
 use auth_grammar::{Octets, is_printable};
 use auth_io::Link;
 use std::alloc::Global;

@@ -1,6 +1,5 @@
 //! The command `show`: the items that the lines of a field spell.
 ghost use Rattle.std.specs.Prelude.{◌≡◌, ◌++◌, ◌∷◌, [], Err, IfOk, OnOk};
-ghost use Rattle.std.specs.Str.Lines.{lines, strip_carriage_return};
 ghost use Rattle.auth_io.specs.Causes.{Rose};
 ghost use Rattle.connection_loop.specs.Account.{link_of};
 ghost use Rattle.auth_grammar.specs.Writing.{item_text};
@@ -9,10 +8,10 @@ ghost use Rattle.authd.specs.Show.{IsShown, Shows, item_lines};
 
 use crate::failure::{Failure, Fault, Refusal};
 use crate::input::read_input;
+use crate::lines::lines_of;
 use crate::printing::print;
 use auth_grammar::{
-    GrammarError, Item, ItemList, Octets, OctetsList, OutOfMemory, Quoting, cut_at,
-    read_challenges, write_items,
+    GrammarError, Item, ItemList, Octets, OutOfMemory, Quoting, read_challenges, write_items,
 };
 use auth_io::Link;
 use std::alloc::Global;
@@ -40,29 +39,6 @@ fn shown(alloc: Global, input: &[u8]) -> Result<Octets, Failure>
         Err(GrammarError::Twice { at, .. }) => Err(Failure::Refused(Refusal::Twice { at })),
         Err(GrammarError::OutOfMemory) => Err(Failure::OutOfMemory),
     }
-}
-
-/// The lines of a text. Each ends with LF or CR LF, but the last one need not.
-fn lines_of(alloc: Global, text: &[u8]) -> Result<OctetsList, OutOfMemory>
-    ensures { IfOk result (λ list. list ≡ lines text.now) }
-{
-    let mut list = OctetsList::new(alloc);
-    let mut rest = text;
-    while let Some((line, behind)) = cut_at(rest, b'\n') {
-        list.push(Octets::of(alloc, without_return(line))?)?;
-        rest = behind;
-    }
-    if !rest.is_empty() {
-        list.push(Octets::of(alloc, rest)?)?;
-    }
-    Ok(list)
-}
-
-/// A line without the one CR at its end.
-pub(crate) fn without_return(line: &[u8]) -> &[u8]
-    ensures { result.now ≡ strip_carriage_return line.now }
-{
-    line.strip_suffix(b"\r").unwrap_or(line)
 }
 
 /// The text of items, each on a line.

@@ -1,9 +1,9 @@
 use Rattle.std.proofs.Common.{◌∷◌, [], ◌∙◌, sym, ap, append_assoc}
 use Rattle.std.specs.Str.Lines.{lines}
 use Rattle.std.proofs.lemmas.List.{append-nil}
-use Rattle.authd.proofs.Lines.{lines_first, lines_last, lines_none}
-use Rattle.authd.proofs.show.lines_of.Goals as goal
-use Rattle.authd.proofs.show.lines_of.Goals.{then-not-is_empty+in_ok-of-2+in_ok-push-2, else-not-is_empty}
+use Rattle.authd.proofs.Cuts.{lines_first, lines_last, lines_none}
+use Rattle.authd.proofs.lines.lines_of.Goals as goal
+use Rattle.authd.proofs.lines.lines_of.Goals.{then-not-is_empty+in_ok-of-2+in_ok-push-2, else-not-is_empty}
 
 pub loop-line-preserved : goal.loop-line-preserved
 loop-line-preserved c =

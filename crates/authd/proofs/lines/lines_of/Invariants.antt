@@ -1,6 +1,6 @@
 use Rattle.std.proofs.Common.{◌≡◌, ◌++◌, length}
 use Rattle.std.specs.Str.Lines.{lines}
-use Rattle.authd.proofs.show.lines_of.Given as goal
+use Rattle.authd.proofs.lines.lines_of.Given as goal
 
 abbrev pub invariant-loop-line : goal.invariant-loop-line
 invariant-loop-line l = l.list ++ lines l.rest ≡ lines l.text
