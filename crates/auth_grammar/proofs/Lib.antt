@@ -13,3 +13,4 @@ pub mod ReadLaws
 pub mod Written
 pub mod RoundTrip
 pub mod Validity
+pub mod Decimals

@@ -3,15 +3,17 @@ ghost use Rattle.std.specs.Prelude.{◌≡◌, ◌↔◌, ◌<◌, ◌*◌, All,
 ghost use Rattle.auth_hash.specs.HexText.{IsHexText, is_lower_digit};
 ghost use Rattle.hex.specs.Hex.{encode_lower};
 
+use std::fmt;
 use std::marker::Model;
 
-/// A text of 32 or 64 lower-case hexadecimal digits. Contracts see it as that list of bytes.
-#[derive(Debug, Drop, Clone, Copy, PartialEq, Eq)]
+/// A text of 32 or 64 lower-case hexadecimal digits. Contracts see it as that list of bytes. It may be a secret, so
+/// `Debug` prints none of it.
+#[derive(Drop, Clone, Copy, PartialEq, Eq)]
 pub struct HexText {
     digits: Digits,
 }
 
-#[derive(Debug, Drop, Clone, Copy, PartialEq, Eq)]
+#[derive(Drop, Clone, Copy, PartialEq, Eq)]
 enum Digits {
     Short([u8; 32]),
     Long([u8; 64]),
@@ -30,6 +32,12 @@ impl Model for HexText {
     ghost invariant = { λ t. HasItsLength t.digits × IsHexText (digits_text t.digits) };
 
     ghost inverse = { λ text. record { digits = digits_of text } };
+}
+
+impl fmt::Debug for HexText {
+    fn fmt<W: fmt::Write>(&self, f: &mut fmt::Formatter<W>) -> fmt::Result {
+        f.write_str("HexText { ... }")
+    }
 }
 
 impl HexText {

@@ -3,6 +3,7 @@ use Rattle.std.specs.Prelude.{ℕ, List, [], ◌∷◌, ◌++◌, codes, Option,
 use Rattle.std.specs.Option.{ok_or}
 use Rattle.auth_grammar.specs.declared.items.Param.{Param}
 use Rattle.auth_grammar.specs.Names.{same_name}
+use Rattle.auth_hash.specs.Algorithm.{algorithm_name}
 use Rattle.auth_hash.specs.declared.algorithm.Algorithm.{Algorithm}
 use Rattle.auth_hash.specs.declared.algorithm.Algorithm.TheVariants.{Md5, Sha256, Sha512t256}
 use Rattle.digest_fields.specs.declared.field.FieldName.TheVariants as field
@@ -10,12 +11,6 @@ use Rattle.digest_fields.specs.declared.field.FieldError.{FieldError}
 use Rattle.digest_fields.specs.declared.field.FieldError.TheVariants.{BadValue}
 use Rattle.digest_fields.specs.declared.kind.Kind.{Kind}
 use Rattle.digest_fields.specs.Field.{given}
-
--- how an algorithm is written
-abbrev pub algorithm_name : Algorithm → List ℕ
-algorithm_name Md5 = codes "MD5"
-algorithm_name Sha256 = codes "SHA-256"
-algorithm_name Sha512t256 = codes "SHA-512-256"
 
 -- how a kind is written
 unfoldable pub kind_name : Kind → List ℕ

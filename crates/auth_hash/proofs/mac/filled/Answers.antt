@@ -1,0 +1,7 @@
+-- The bytes stand in front of the zeros.
+use Rattle.std.proofs.Common.{refl}
+use Rattle.std.proofs.lemmas.List.{drop-replicate}
+use Rattle.auth_hash.proofs.mac.filled.Goals as goal
+
+pub returns : goal.returns
+returns c = rw (c.copy_from_slice.ensures.after, drop-replicate) refl
