@@ -56,6 +56,7 @@ grows_then {a} {b} {c} {ms} {ns} p q =
     record {
       same = record {
         owner = Q.owner ∙ P.owner;
+        table = Q.table ∙ P.table;
         sizes = Q.sizes ∙ P.sizes;
         limit = Q.limit ∙ P.limit;
         shards = Q.shards ∙ P.shards;
@@ -70,7 +71,7 @@ GrowsBy-none old new is = record { grown = []; begins = is ∙ sym (append-nil o
 -- no call
 pub grows_none : (a : Seat) → Grows a a []
 grows_none a = record {
-  same = record { owner = refl; sizes = refl; limit = refl; shards = refl; noted = λ s h. omega arith };
+  same = record { owner = refl; table = refl; sizes = refl; limit = refl; shards = refl; noted = λ s h. omega arith };
   lists = λ s h. GrowsBy-none (a.seen s) (a.seen s) refl;
 }
 

@@ -25,7 +25,7 @@ one_more j call = record {
 pub journal_grows : (j k : Journal) (shard : ℕ) (call : Call) → shard < 1 → k ≡ record j { calls = j.calls ++ call ∷ [] } → Grows (seat_of j) (seat_of k) (record { shard = shard; call = call; reply = reply j.sizes 0 j.calls call } ∷ [])
 journal_grows j k (suc n) call below is = absurd (omega arith)
 journal_grows j k zero call below is = rw is record {
-  same = record { owner = refl; sizes = refl; limit = refl; shards = refl; noted = λ s h. omega (arith, length-append j.calls (call ∷ [])) };
+  same = record { owner = refl; table = refl; sizes = refl; limit = refl; shards = refl; noted = λ s h. omega (arith, length-append j.calls (call ∷ [])) };
   lists = at;
 }
   where
@@ -36,7 +36,7 @@ journal_grows j k zero call below is = rw is record {
 -- a call that is refused
 pub journal_worn : (j k : Journal) (shard calls : ℕ) → calls ≡ j.limit → length j.calls ≡ j.limit → k ≡ j → IsWorn (seat_of j) (seat_of k) shard calls
 journal_worn j k shard calls limit full is = rw is record {
-  same = record { owner = refl; sizes = refl; limit = refl; shards = refl; noted = λ s h. omega arith };
+  same = record { owner = refl; table = refl; sizes = refl; limit = refl; shards = refl; noted = λ s h. omega arith };
   lists = λ s h. refl;
   noted = full ∙ sym limit;
   at_limit = limit;

@@ -1,6 +1,6 @@
 -- No count is answered Fresh twice, and no exchange is answered Taken twice.
 use Rattle.std.proofs.Common.{◌≡◌, ◌≢◌, ◌==◌, ℕ, Bool, true, false, cond, ◌||◌, Option, Some, None, List, [], ◌∷◌, refl, arith}
-use Rattle.std.specs.Prelude.{All, nat_le, ◌+◌, ◌-◌}
+use Rattle.std.specs.Prelude.{All, nat_le, ◌+◌, ◌-◌, length}
 use Rattle.std.specs.List.{list_any}
 use Rattle.std.specs.Option.{option_map_or}
 use Rattle.std.proofs.lemmas.Bool.Decides.{nat_tests}
@@ -14,11 +14,14 @@ use Rattle.nonce_shard.specs.declared.calls.What.TheVariants.{Issue, Peek, Use, 
 use Rattle.nonce_shard.specs.declared.calls.Call.{Call}
 use Rattle.nonce_shard.specs.declared.calls.Reply.TheVariants as replies
 use Rattle.nonce_shard.specs.declared.sizes.Sizes.{Sizes}
+use Rattle.count_window.specs.declared.window.TheConstants.{WIDTH}
+use Rattle.count_window.specs.Window.{high}
+use Rattle.nonce_shard.specs.declared.exchanges.Progress.TheVariants.{Untried, Tried, Finished}
 use Rattle.nonce_shard.specs.declared.history.Answered.{Answered}
 use Rattle.nonce_shard.specs.declared.exchanges.Opening.{Opening}
 use Rattle.nonce_shard.specs.History.{time_at}
-use Rattle.nonce_shard.specs.Nonces.{is_live, admitted, first_prime, is_other, high}
-use Rattle.nonce_shard.specs.Exchanges.{IsOpen, IsTried, IsFinished, takes, kept_at, opening, take_reply}
+use Rattle.nonce_shard.specs.Nonces.{is_live, admitted, first_prime, is_other}
+use Rattle.nonce_shard.specs.Exchanges.{takes, kept_at, opening, take_reply}
 use Rattle.nonce_shard.specs.Replies.{reply, reply_to, answered, ComesOnce}
 
 both_false : (a b : Bool) → (a || b) ≡ false → (a ≡ false) × (b ≡ false)
@@ -43,13 +46,13 @@ all_other n (x ∷ xs) none =
     other y not_same = grind (arith, nat_tests)
 
 -- a Use is answered Fresh only at the end of its four tests
-use_once : (past : List Answered) (nonce : TableName) (kind : NonceKind) (space count : ℕ) (given : Option (ArrayVec ℕ)) (top : ℕ) (live behind repeated other : Bool) → (repeated ≡ false → All (λ c. c ≢ count) (admitted past nonce))
-    → ComesOnce past (Use nonce kind space count given) (cond live (cond behind (replies.Behind top) (cond repeated replies.Repeated (cond other replies.OtherSession replies.Fresh))) replies.Gone)
-use_once past nonce kind space count given top true true repeated other fresh = tt
-use_once past nonce kind space count given top true false true other fresh = tt
-use_once past nonce kind space count given top true false false true fresh = tt
-use_once past nonce kind space count given top true false false false fresh = fresh refl
-use_once past nonce kind space count given top false behind repeated other fresh = tt
+use_once : (past : List Answered) (nonce : TableName) (kind : NonceKind) (space count : ℕ) (given : Option (ArrayVec ℕ)) (top uses : ℕ) (live behind repeated other : Bool) → (repeated ≡ false → All (λ c. c ≢ count) (admitted past nonce))
+    → ComesOnce past (Use nonce kind space count given) (cond live (cond behind (replies.Behind top) (cond repeated replies.Repeated (cond other replies.OtherSession (replies.Fresh uses)))) replies.Gone)
+use_once past nonce kind space count given top uses true true repeated other fresh = tt
+use_once past nonce kind space count given top uses true false true other fresh = tt
+use_once past nonce kind space count given top uses true false false true fresh = tt
+use_once past nonce kind space count given top uses true false false false fresh = fresh refl
+use_once past nonce kind space count given top uses false behind repeated other fresh = tt
 
 taken_if : (past : List Answered) (sid : TableName) (space : ℕ) (exchange : Exchange) (young : Bool) → All (λ a. takes sid a.call.what a.reply ≡ false) past → ComesOnce past (Take sid space) (cond young (replies.Taken exchange) replies.Gone)
 taken_if past sid space exchange true open_still = open_still
@@ -57,7 +60,7 @@ taken_if past sid space exchange false open_still = tt
 
 -- a Take is answered Taken only where the exchange is open
 take_once : (sizes : Sizes) (now : ℕ) (past : List Answered) (sid : TableName) (space : ℕ) (there : Option Opening) (kept : Option ℕ) (taken : Bool) → (taken ≡ false → All (λ a. takes sid a.call.what a.reply ≡ false) past)
-    → ComesOnce past (Take sid space) (option_map_or (λ o. take_reply sizes now o (option_map_or (λ time. IsFinished time) kept (cond taken IsTried IsOpen))) there replies.Gone)
+    → ComesOnce past (Take sid space) (option_map_or (λ o. take_reply sizes now o (option_map_or (λ time. Finished time) kept (cond taken Tried Untried))) there replies.Gone)
 take_once sizes now past sid space None kept taken first = tt
 take_once sizes now past sid space (Some o) (Some time) taken first = tt
 take_once sizes now past sid space (Some o) None true first = tt
@@ -65,7 +68,7 @@ take_once sizes now past sid space (Some o) None false first = taken_if past sid
 
 once : (sizes : Sizes) (shard : ℕ) (past : List Answered) (now : ℕ) (what : What) → ComesOnce past what (reply_to sizes shard past now what)
 once sizes shard past now (Use nonce kind space count given) =
-    use_once past nonce kind space count given (high (admitted past nonce)) (is_live sizes shard past nonce kind space now) (nat_le (count + 128) (high (admitted past nonce)))
+    use_once past nonce kind space count given (high (admitted past nonce)) (length (admitted past nonce) + 1) (is_live sizes shard past nonce kind space now) (nat_le (count + WIDTH) (high (admitted past nonce)))
     (list_any (λ c. c == count) (admitted past nonce)) (is_other given (first_prime past nonce)) (all_other count (admitted past nonce))
 once sizes shard past now (Take sid space) =
     take_once sizes now past sid space (opening sizes shard past sid space) (kept_at past sid) (list_any (λ a. takes sid a.call.what a.reply) past) (none_passes (λ a. takes sid a.call.what a.reply) past)

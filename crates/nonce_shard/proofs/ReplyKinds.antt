@@ -1,6 +1,6 @@
 -- The replies that a call can have.
 use Rattle.std.proofs.Common.{◌≡◌, ◌<◌, ℕ, Bool, true, false, cond, ◌==◌, Option, Some, None, List, [], ◌∷◌, ◌++◌, subst, ◌∙◌, refl, arith}
-use Rattle.std.specs.Prelude.{All, nat_le, ◌+◌, ◌-◌}
+use Rattle.std.specs.Prelude.{All, nat_le, ◌+◌, ◌-◌, length}
 use Rattle.std.specs.List.{list_any}
 use Rattle.std.specs.Option.{option_map_or}
 use Rattle.std.proofs.lemmas.Bool.Decides.{nat_tests}
@@ -15,10 +15,14 @@ use Rattle.nonce_shard.specs.declared.calls.Call.{Call}
 use Rattle.nonce_shard.specs.declared.calls.Reply.{Reply}
 use Rattle.nonce_shard.specs.declared.calls.Reply.TheVariants as replies
 use Rattle.nonce_shard.specs.declared.sizes.Sizes.{Sizes}
+use Rattle.count_window.specs.declared.window.TheConstants.{WIDTH}
+use Rattle.count_window.specs.Window.{high}
+use Rattle.nonce_shard.specs.declared.exchanges.Progress.{Progress}
+use Rattle.nonce_shard.specs.declared.exchanges.Progress.TheVariants.{Untried, Tried, Finished}
 use Rattle.nonce_shard.specs.declared.history.Answered.{Answered}
 use Rattle.nonce_shard.specs.declared.exchanges.Opening.{Opening}
-use Rattle.nonce_shard.specs.Nonces.{admitted, first_prime, high, is_live, is_other, use_reply}
-use Rattle.nonce_shard.specs.Exchanges.{Progress, IsOpen, IsTried, IsFinished, opening, progress, take_reply, keep_reply, recall_reply}
+use Rattle.nonce_shard.specs.Nonces.{admitted, first_prime, is_live, is_other, use_reply}
+use Rattle.nonce_shard.specs.Exchanges.{opening, progress, take_reply, keep_reply, recall_reply}
 use Rattle.nonce_shard.specs.History.{time_at}
 use Rattle.nonce_shard.specs.Replies.{reply, reply_to, answered, CanAnswer}
 use Rattle.nonce_shard.specs.Seat.{Seat, Entry, Made, Grows, own_answers, of_shard, calls_of}
@@ -27,30 +31,30 @@ or_gone : (test : Bool) (what : What) (r : Reply) → CanAnswer r what → CanAn
 or_gone true what r well gone = well
 or_gone false what r well gone = gone
 
-use_can : (nonce : TableName) (kind : NonceKind) (space count : ℕ) (given : Option (ArrayVec ℕ)) (top : ℕ) (behind repeated other : Bool)
-    → CanAnswer (cond behind (replies.Behind top) (cond repeated replies.Repeated (cond other replies.OtherSession replies.Fresh))) (Use nonce kind space count given)
-use_can nonce kind space count given top true repeated other = tt
-use_can nonce kind space count given top false true other = tt
-use_can nonce kind space count given top false false true = tt
-use_can nonce kind space count given top false false false = tt
+use_can : (nonce : TableName) (kind : NonceKind) (space count : ℕ) (given : Option (ArrayVec ℕ)) (top uses : ℕ) (behind repeated other : Bool)
+    → CanAnswer (cond behind (replies.Behind top) (cond repeated replies.Repeated (cond other replies.OtherSession (replies.Fresh uses)))) (Use nonce kind space count given)
+use_can nonce kind space count given top uses true repeated other = tt
+use_can nonce kind space count given top uses false true other = tt
+use_can nonce kind space count given top uses false false true = tt
+use_can nonce kind space count given top uses false false false = tt
 
 take_can : (sizes : Sizes) (now : ℕ) (sid : TableName) (space : ℕ) (p : Progress) (there : Option Opening) → CanAnswer (option_map_or (λ o. take_reply sizes now o p) there replies.Gone) (Take sid space)
 take_can sizes now sid space p None = tt
-take_can sizes now sid space IsOpen (Some o) = or_gone (nat_le (now - o.time) sizes.open_life) (Take sid space) (replies.Taken o.exchange) tt tt
-take_can sizes now sid space IsTried (Some o) = tt
-take_can sizes now sid space (IsFinished time) (Some o) = tt
+take_can sizes now sid space Untried (Some o) = or_gone (nat_le (now - o.time) sizes.open_life) (Take sid space) (replies.Taken o.exchange) tt tt
+take_can sizes now sid space Tried (Some o) = tt
+take_can sizes now sid space (Finished time) (Some o) = tt
 
 keep_can : (sid : TableName) (space : ℕ) (p : Progress) (there : Option Opening) → CanAnswer (option_map_or (λ o. keep_reply p) there replies.Gone) (Keep sid space)
 keep_can sid space p None = tt
-keep_can sid space IsOpen (Some o) = tt
-keep_can sid space IsTried (Some o) = tt
-keep_can sid space (IsFinished time) (Some o) = tt
+keep_can sid space Untried (Some o) = tt
+keep_can sid space Tried (Some o) = tt
+keep_can sid space (Finished time) (Some o) = tt
 
 recall_can : (sizes : Sizes) (now : ℕ) (sid : TableName) (space : ℕ) (p : Progress) (there : Option Opening) → CanAnswer (option_map_or (λ o. recall_reply sizes now o p) there replies.Gone) (Recall sid space)
 recall_can sizes now sid space p None = tt
-recall_can sizes now sid space IsOpen (Some o) = tt
-recall_can sizes now sid space IsTried (Some o) = tt
-recall_can sizes now sid space (IsFinished time) (Some o) = or_gone (nat_le (now - time) sizes.finished_life) (Recall sid space) (replies.Session o.exchange) tt tt
+recall_can sizes now sid space Untried (Some o) = tt
+recall_can sizes now sid space Tried (Some o) = tt
+recall_can sizes now sid space (Finished time) (Some o) = or_gone (nat_le (now - time) sizes.finished_life) (Recall sid space) (replies.Session o.exchange) tt tt
 
 -- each reply of the definition is one that the call can have
 pub reply_to_can_answer : (sizes : Sizes) (shard : ℕ) (past : List Answered) (now : ℕ) (what : What) → CanAnswer (reply_to sizes shard past now what) what
@@ -59,7 +63,7 @@ reply_to_can_answer sizes shard past now (Peek nonce space) = or_gone (is_live s
 reply_to_can_answer sizes shard past now (Use nonce kind space count given) =
     let counts = admitted past nonce in
     or_gone (is_live sizes shard past nonce kind space now) (Use nonce kind space count given) (use_reply counts (first_prime past nonce) count given)
-    (use_can nonce kind space count given (high counts) (nat_le (count + 128) (high counts)) (list_any (λ c. c == count) counts) (is_other given (first_prime past nonce))) tt
+    (use_can nonce kind space count given (high counts) (length counts + 1) (nat_le (count + WIDTH) (high counts)) (list_any (λ c. c == count) counts) (is_other given (first_prime past nonce))) tt
 reply_to_can_answer sizes shard past now (Open space random exchange) = tt
 reply_to_can_answer sizes shard past now (Take sid space) = take_can sizes now sid space (progress past sid) (opening sizes shard past sid space)
 reply_to_can_answer sizes shard past now (Keep sid space) = keep_can sid space (progress past sid) (opening sizes shard past sid space)

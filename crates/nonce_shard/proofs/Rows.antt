@@ -13,7 +13,7 @@ use Rattle.nonce_shard.specs.declared.calls.Call.{Call}
 use Rattle.nonce_shard.specs.declared.calls.Reply.TheVariants as replies
 use Rattle.nonce_shard.specs.declared.sizes.Sizes.{Sizes}
 use Rattle.nonce_shard.specs.Names.{name_text}
-use Rattle.nonce_shard.specs.Sizes.{single_sizes}
+use Rattle.nonce_shard.specs.Sizes.{standard_sizes, single_sizes}
 use Rattle.nonce_shard.specs.Replies.{reply}
 
 -- the first nonce, of random bytes all 0
@@ -34,15 +34,18 @@ issue_at moment = record { moment = moment; what = Issue Digest 0 (replicate 16 
 abbrev use_at : ℕ → ℕ → Call
 use_at moment count = record { moment = moment; what = Use first_nonce Digest 0 count None }
 
+its_sizes : standard_sizes ≡ record { shards = 16; nonces = 4096; exchanges = 1024; nonce_life = 300; open_life = 60; finished_life = 3600; uses = 1024 }
+its_sizes = refl
+
 -- ---- the window of 128 counts
 
 abbrev used : List Call
 used = issue_at 0 ∷ use_at 0 200 ∷ use_at 0 73 ∷ []
 
-greatest_count : reply single_sizes 0 (issue_at 0 ∷ []) (use_at 0 200) ≡ replies.Fresh
+greatest_count : reply single_sizes 0 (issue_at 0 ∷ []) (use_at 0 200) ≡ replies.Fresh 1
 greatest_count = refl
 
-lowest_count : reply single_sizes 0 (issue_at 0 ∷ use_at 0 200 ∷ []) (use_at 0 73) ≡ replies.Fresh
+lowest_count : reply single_sizes 0 (issue_at 0 ∷ use_at 0 200 ∷ []) (use_at 0 73) ≡ replies.Fresh 2
 lowest_count = refl
 
 count_below : reply single_sizes 0 used (use_at 0 72) ≡ replies.Behind 200
@@ -53,7 +56,7 @@ same_count = refl
 
 -- ---- the life of a nonce
 
-last_second : reply single_sizes 0 (issue_at 1000 ∷ []) (use_at 1300 1) ≡ replies.Fresh
+last_second : reply single_sizes 0 (issue_at 1000 ∷ []) (use_at 1300 1) ≡ replies.Fresh 1
 last_second = refl
 
 second_after : reply single_sizes 0 (issue_at 1000 ∷ use_at 1300 1 ∷ []) (use_at 1301 2) ≡ replies.Gone
@@ -68,11 +71,26 @@ clock_went_back = refl
 abbrev two_nonces : Sizes
 two_nonces = record single_sizes { nonces = 2 }
 
-one_since : reply two_nonces 0 (issue_at 0 ∷ issue_at 0 ∷ []) (use_at 0 1) ≡ replies.Fresh
+one_since : reply two_nonces 0 (issue_at 0 ∷ issue_at 0 ∷ []) (use_at 0 1) ≡ replies.Fresh 1
 one_since = refl
 
 two_since : reply two_nonces 0 (issue_at 0 ∷ issue_at 0 ∷ issue_at 0 ∷ []) (use_at 0 1) ≡ replies.Gone
 two_since = refl
+
+-- ---- how many uses it has
+
+abbrev two_uses : Sizes
+two_uses = record single_sizes { uses = 2 }
+
+last_use : reply two_uses 0 (issue_at 0 ∷ use_at 0 1 ∷ use_at 0 1 ∷ []) (use_at 0 2) ≡ replies.Fresh 2
+last_use = refl
+
+use_after : reply two_uses 0 (issue_at 0 ∷ use_at 0 1 ∷ use_at 0 2 ∷ []) (use_at 0 3) ≡ replies.Gone
+use_after = refl
+
+-- no session is told of it then
+peek_after : reply two_uses 0 (issue_at 0 ∷ use_at 0 1 ∷ use_at 0 2 ∷ []) (record { moment = 0; what = Peek first_nonce 0 }) ≡ replies.Gone
+peek_after = refl
 
 -- ---- what a nonce is for
 

@@ -12,6 +12,8 @@ use Rattle.nonce_shard.specs.declared.calls.Reply.TheVariants as replies
 use Rattle.nonce_shard.specs.declared.sizes.Sizes.{Sizes}
 use Rattle.nonce_shard.specs.declared.history.Answered.{Answered}
 use Rattle.nonce_shard.specs.declared.exchanges.Opening.{Opening}
+use Rattle.nonce_shard.specs.declared.exchanges.Progress.{Progress}
+use Rattle.nonce_shard.specs.declared.exchanges.Progress.TheVariants.{Untried, Tried, Finished}
 use Rattle.nonce_shard.specs.Names.{kinds_eq, names_eq}
 
 -- ---- which exchanges there are
@@ -30,9 +32,13 @@ opening_in (Recall sid space) time = None
 abbrev pub openings : List Answered → List Opening
 openings past = filter_map (λ a. opening_in a.call.what a.time) past
 
--- whether a name, at the place of its serial, is the name of this exchange, of that space, and few enough were opened since
+-- whether a name, at the place of its serial, is the name of this exchange, of that space
+abbrev pub names_exchange : ℕ → TableName → ℕ → Opening → Bool
+names_exchange shard name space o = kinds_eq name.kind names.Exchange && (name.shard == shard) && pointwise nat_eq name.random o.random && (o.space == space)
+
+-- and few enough were opened since
 abbrev pub is_there : Sizes → ℕ → List Answered → TableName → ℕ → Opening → Bool
-is_there sizes shard past name space o = kinds_eq name.kind names.Exchange && (name.shard == shard) && pointwise nat_eq name.random o.random && (o.space == space) && nat_lt (length (openings past) - name.serial - 1) sizes.exchanges
+is_there sizes shard past name space o = names_exchange shard name space o && nat_lt (length (openings past) - name.serial - 1) sizes.exchanges
 
 -- the exchange of this name in this space, where it is there
 abbrev pub opening : Sizes → ℕ → List Answered → TableName → ℕ → Option Opening
@@ -54,29 +60,24 @@ keep_in name _ _ time = None
 abbrev pub kept_at : List Answered → TableName → Option ℕ
 kept_at past name = slice_get (filter_map (λ a. keep_in name a.call.what a.reply a.time) past) 0
 
--- open until it is taken, then tried until it is kept, then finished at that time
-pub data Progress : Type 0 where
-  IsOpen : Progress
-  IsTried : Progress
-  IsFinished : ℕ → Progress
-
+-- untried until it is taken, then tried until it is kept, then finished at that time
 abbrev pub progress : List Answered → TableName → Progress
-progress past name = option_map_or (λ time. IsFinished time) (kept_at past name) (if list_any (λ a. takes name a.call.what a.reply) past then IsTried else IsOpen)
+progress past name = option_map_or (λ time. Finished time) (kept_at past name) (if list_any (λ a. takes name a.call.what a.reply) past then Tried else Untried)
 
--- the one try is taken while it is open and not too old
+-- the one try is taken while it is untried and not too old
 abbrev pub take_reply : Sizes → ℕ → Opening → Progress → Reply
-take_reply sizes now o IsOpen = if nat_le (now - o.time) sizes.open_life then replies.Taken o.exchange else replies.Gone
-take_reply sizes now o IsTried = replies.Gone
-take_reply sizes now o (IsFinished time) = replies.Gone
+take_reply sizes now o Untried = if nat_le (now - o.time) sizes.open_life then replies.Taken o.exchange else replies.Gone
+take_reply sizes now o Tried = replies.Gone
+take_reply sizes now o (Finished time) = replies.Gone
 
 -- it is kept once it is tried
 abbrev pub keep_reply : Progress → Reply
-keep_reply IsOpen = replies.Gone
-keep_reply IsTried = replies.Kept
-keep_reply (IsFinished time) = replies.Gone
+keep_reply Untried = replies.Gone
+keep_reply Tried = replies.Kept
+keep_reply (Finished time) = replies.Gone
 
 -- it is recalled once it is finished, and not too long ago
 abbrev pub recall_reply : Sizes → ℕ → Opening → Progress → Reply
-recall_reply sizes now o IsOpen = replies.Gone
-recall_reply sizes now o IsTried = replies.Gone
-recall_reply sizes now o (IsFinished time) = if nat_le (now - time) sizes.finished_life then replies.Session o.exchange else replies.Gone
+recall_reply sizes now o Untried = replies.Gone
+recall_reply sizes now o Tried = replies.Gone
+recall_reply sizes now o (Finished time) = if nat_le (now - time) sizes.finished_life then replies.Session o.exchange else replies.Gone

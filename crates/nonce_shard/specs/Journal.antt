@@ -1,8 +1,7 @@
 -- What a table that keeps its calls is seen as.
-use Rattle.std.specs.Prelude.{ℕ, List, length, map}
+use Rattle.std.specs.Prelude.{ℕ, List, [], length, map}
 use Rattle.nonce_shard.specs.declared.calls.Call.{Call}
 use Rattle.nonce_shard.specs.declared.sizes.Sizes.{Sizes}
-use Rattle.nonce_shard.specs.declared.history.Answered.{Answered}
 use Rattle.nonce_shard.specs.Seat.{Entry, Seat}
 
 -- what it was opened with, and its calls so far, the oldest first
@@ -10,9 +9,6 @@ pub record Journal : Type 0 where
   pub sizes : Sizes
   pub limit : ℕ
   pub calls : List Call
-
-abbrev pub calls_in : List Answered → List Call
-calls_in past = map (λ a. a.call) past
 
 -- the entries of the one owner
 abbrev pub own_entries : List Call → List Entry
@@ -22,6 +18,7 @@ own_entries calls = map (λ c. (0, c)) calls
 abbrev pub seat_of : Journal → Seat
 seat_of j = record {
   owner = 0;
+  table = [];
   sizes = j.sizes;
   limit = j.limit;
   shards = 1;

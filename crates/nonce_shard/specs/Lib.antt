@@ -4,5 +4,11 @@ pub mod History
 pub mod Nonces
 pub mod Exchanges
 pub mod Replies
+pub mod Totals
+pub mod Ring
+pub mod NonceRing
+pub mod ExchangeRing
+pub mod Shard
 pub mod Seat
 pub mod Journal
+pub mod Laws

@@ -1,9 +1,10 @@
 -- What the answered calls say of a nonce.
-use Rattle.std.specs.Prelude.{ℕ, ◌+◌, ◌-◌, Bool, true, false, not, ◌&&◌, ◌==◌, if◌then◌else◌, nat_lt, nat_le, nat_eq, max, Option, Some, None, List, length, slice_get, fold}
-use Rattle.std.specs.List.{filter_map, list_any}
+use Rattle.std.specs.Prelude.{ℕ, ◌+◌, ◌-◌, Bool, true, false, not, ◌&&◌, ◌==◌, if◌then◌else◌, nat_lt, nat_le, nat_eq, Option, Some, None, List, length, slice_get}
+use Rattle.std.specs.List.{filter_map}
 use Rattle.std.specs.Option.{option_map_or}
 use Rattle.std.specs.Cmp.Lexicographic.{pointwise}
 use Rattle.arrayvec.specs.ArrayVec.{ArrayVec}
+use Rattle.count_window.specs.Window.{high, is_behind, is_admitted}
 use Rattle.nonce_shard.specs.declared.names.TableName.{TableName}
 use Rattle.nonce_shard.specs.declared.names.NameKind.TheVariants as names
 use Rattle.nonce_shard.specs.declared.calls.NonceKind.{NonceKind}
@@ -51,15 +52,10 @@ serves Scram Both = false
 abbrev pub serves_call : Sizes → ℕ → TableName → NonceKind → ℕ → ℕ → Nonce → Bool
 serves_call sizes shard name kind space now nonce = names_nonce shard name nonce && (nonce.space == space) && serves nonce.kind kind && nat_le (now - nonce.time) sizes.nonce_life
 
--- whether a nonce of this name was issued for that kind and space, is not too old, and few enough were issued since
-abbrev pub is_live : Sizes → ℕ → List Answered → TableName → NonceKind → ℕ → ℕ → Bool
-is_live sizes shard past name kind space now =
-    option_map_or (λ nonce. serves_call sizes shard name kind space now nonce && nat_lt (length (nonces past) - name.serial - 1) sizes.nonces) (slice_get (nonces past) name.serial) false
-
 -- ---- how a nonce was used
 
 abbrev pub is_fresh : Reply → Bool
-is_fresh replies.Fresh = true
+is_fresh (replies.Fresh uses) = true
 is_fresh _ = false
 
 -- the count of a Use of this nonce that was answered Fresh
@@ -71,9 +67,17 @@ fresh_count name _ reply = None
 abbrev pub admitted : List Answered → TableName → List ℕ
 admitted past name = filter_map (λ a. fresh_count name a.call.what a.reply) past
 
--- the greatest of some counts, or 0
-abbrev pub high : List ℕ → ℕ
-high counts = fold max 0 counts
+-- ---- whether a nonce may be used
+
+-- whether a nonce of this name was issued for that kind and space, is not too old, few enough were issued since,
+-- and few enough of its counts were admitted
+abbrev pub is_live : Sizes → ℕ → List Answered → TableName → NonceKind → ℕ → ℕ → Bool
+is_live sizes shard past name kind space now =
+    let few_since = nat_lt (length (nonces past) - name.serial - 1) sizes.nonces in
+    let few_uses = nat_lt (length (admitted past name)) sizes.uses in
+    option_map_or (λ nonce. serves_call sizes shard name kind space now nonce && few_since && few_uses) (slice_get (nonces past) name.serial) false
+
+-- ---- what a use is answered
 
 -- the prime of a Use of this nonce that was answered Fresh, if it gave one
 abbrev pub fresh_prime : TableName → What → Reply → Option (ArrayVec ℕ)
@@ -93,7 +97,7 @@ is_other (Some given) (Some held) = not (pointwise nat_eq given.items held.items
 -- the reply to a Use of a live nonce, from the counts that were admitted and the prime that is held
 abbrev pub use_reply : List ℕ → Option (ArrayVec ℕ) → ℕ → Option (ArrayVec ℕ) → Reply
 use_reply counts held count given =
-    if nat_le (count + 128) (high counts) then replies.Behind (high counts)
-    else if list_any (λ c. c == count) counts then replies.Repeated
+    if is_behind counts count then replies.Behind (high counts)
+    else if is_admitted counts count then replies.Repeated
     else if is_other given held then replies.OtherSession
-    else replies.Fresh
+    else replies.Fresh (length counts + 1)

@@ -54,7 +54,7 @@ CanAnswer replies.Gone (Use nonce kind space count given) = Unit {0}
 CanAnswer (replies.Behind high) (Use nonce kind space count given) = Unit {0}
 CanAnswer replies.Repeated (Use nonce kind space count given) = Unit {0}
 CanAnswer replies.OtherSession (Use nonce kind space count given) = Unit {0}
-CanAnswer replies.Fresh (Use nonce kind space count given) = Unit {0}
+CanAnswer (replies.Fresh uses) (Use nonce kind space count given) = Unit {0}
 CanAnswer (replies.Opened serial) (Open space random exchange) = Unit {0}
 CanAnswer (replies.Taken exchange) (Take sid space) = Unit {0}
 CanAnswer replies.Gone (Take sid space) = Unit {0}
@@ -66,6 +66,6 @@ CanAnswer _ _ = ⊥
 
 -- a count that is answered Fresh is new, and an exchange that is answered Taken was not taken before
 abbrev pub ComesOnce : List Answered → What → Reply → Type 0
-ComesOnce past (Use nonce kind space count given) replies.Fresh = All (λ c. c ≢ count) (admitted past nonce)
+ComesOnce past (Use nonce kind space count given) (replies.Fresh uses) = All (λ c. c ≢ count) (admitted past nonce)
 ComesOnce past (Take sid space) (replies.Taken exchange) = All (λ a. takes sid a.call.what a.reply ≡ false) past
 ComesOnce past _ _ = Unit {0}

@@ -12,10 +12,11 @@ Entry = ℕ × Call
 abbrev pub calls_of : List Entry → List Call
 calls_of entries = map (λ e. e.1) entries
 
--- a seat: its owner, its table, and for each shard by its number the list of entries that it has seen
--- and the greatest number of entries that it was told of
+-- a seat: its owner, numbers that tell its table from every other, the table's sizes, limit and shards, and for each
+-- shard by its number the list of entries that it has seen and the greatest number of entries that it was told of
 pub record Seat : Type 0 where
   pub owner : ℕ
+  pub table : List (List ℕ)
   pub sizes : Sizes
   pub limit : ℕ
   pub shards : ℕ
@@ -45,6 +46,7 @@ pub record GrowsBy (sizes : Sizes) (shard owner : ℕ) (old new : List Entry) (o
 -- what stays of a seat whatever it is asked
 pub record SameSeat (old new : Seat) : Type 0 where
   pub owner : new.owner ≡ old.owner
+  pub table : new.table ≡ old.table
   pub sizes : new.sizes ≡ old.sizes
   pub limit : new.limit ≡ old.limit
   pub shards : new.shards ≡ old.shards

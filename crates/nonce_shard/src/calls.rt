@@ -88,11 +88,12 @@ pub enum Reply {
     Issued { serial: u64 },
     /// The prime of the first admitted use that gave one.
     Prime { prime: Option<Prime> },
-    /// The count is used now, and was not before.
-    Fresh,
-    /// There is no such nonce or exchange, or it is too old or out of turn.
+    /// The count is used now, and was not before. `uses` is how many of the nonce's counts are used
+    /// now, this one with them.
+    Fresh { uses: u32 },
+    /// There is no such nonce or exchange, or it is too old, used up or out of turn.
     Gone,
-    /// The count is at least 128 below the greatest one used.
+    /// The count is too far below the greatest one used: by the width of the window, or more.
     Behind { high: u32 },
     /// The count was used before.
     Repeated,

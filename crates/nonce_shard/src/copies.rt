@@ -2,7 +2,7 @@
 ghost use Rattle.std.specs.Prelude.{◌≡◌};
 ghost use Rattle.std.specs.Option.{option_copied};
 
-use crate::calls::{Call, Exchange, Prime, Reply, What};
+use crate::calls::{Call, Exchange, Prime, What};
 use arrayvec::ArrayVec;
 
 pub fn copy_prime(prime: &Prime) -> Prime
@@ -13,16 +13,7 @@ pub fn copy_prime(prime: &Prime) -> Prime
     copy
 }
 
-pub fn copy_found_prime(prime: Option<&Prime>) -> Option<Prime>
-    ensures { result ≡ option_copied prime.entry }
-{
-    match prime {
-        Some(prime) => Some(copy_prime(prime)),
-        None => None,
-    }
-}
-
-fn copy_optional_prime(prime: &Option<Prime>) -> Option<Prime>
+pub fn copy_optional_prime(prime: &Option<Prime>) -> Option<Prime>
     ensures { result ≡ prime.now }
 {
     match prime {
@@ -101,30 +92,6 @@ fn copy_what(what: &What) -> What
         What::Recall { sid, space } => What::Recall {
             sid: *sid,
             space: *space,
-        },
-    }
-}
-
-pub fn copy_reply(reply: &Reply) -> Reply
-    ensures { result ≡ reply.now }
-{
-    match reply {
-        Reply::Issued { serial } => Reply::Issued { serial: *serial },
-        Reply::Prime { prime } => Reply::Prime {
-            prime: copy_optional_prime(prime),
-        },
-        Reply::Fresh => Reply::Fresh,
-        Reply::Gone => Reply::Gone,
-        Reply::Behind { high } => Reply::Behind { high: *high },
-        Reply::Repeated => Reply::Repeated,
-        Reply::OtherSession => Reply::OtherSession,
-        Reply::Opened { serial } => Reply::Opened { serial: *serial },
-        Reply::Taken { exchange } => Reply::Taken {
-            exchange: copy_exchange(exchange),
-        },
-        Reply::Kept => Reply::Kept,
-        Reply::Session { exchange } => Reply::Session {
-            exchange: copy_exchange(exchange),
         },
     }
 }

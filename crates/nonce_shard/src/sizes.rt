@@ -2,7 +2,29 @@
 ghost use Rattle.std.specs.Prelude.{◌≡◌};
 ghost use Rattle.nonce_shard.specs.Sizes.{standard_sizes, single_sizes};
 
-/// The sizes of a table. Lives are in seconds. `nonces` and `exchanges` are for each shard: an older one is dropped.
+/// The most shards that a table can have.
+pub const MOST_SHARDS: u16 = 16;
+
+/// How many nonces a shard of the standard sizes holds.
+pub const NONCES: u32 = 4096;
+
+/// How many exchanges a shard of the standard sizes holds.
+pub const EXCHANGES: u32 = 1024;
+
+/// How many seconds a nonce lives in the standard sizes: five minutes.
+const NONCE_LIFE: u64 = 300;
+
+/// How many seconds an exchange waits for its try in the standard sizes: one minute.
+const OPEN_LIFE: u64 = 60;
+
+/// How many seconds a finished exchange is recalled in the standard sizes: one hour.
+const FINISHED_LIFE: u64 = 3600;
+
+/// How many uses of a nonce are admitted in the standard sizes.
+const USES: u32 = 1024;
+
+/// The sizes of a table. Lives are in seconds. `nonces` and `exchanges` are for each shard: an
+/// older one is dropped. `uses` is how many counts of a nonce are admitted.
 #[derive(Clone, Copy, Debug, PartialEq, Eq)]
 pub struct Sizes {
     pub shards: u16,
@@ -11,6 +33,7 @@ pub struct Sizes {
     pub nonce_life: u64,
     pub open_life: u64,
     pub finished_life: u64,
+    pub uses: u32,
 }
 
 impl Sizes {
@@ -19,12 +42,13 @@ impl Sizes {
         ensures { result ≡ standard_sizes }
     {
         Sizes {
-            shards: 16,
-            nonces: 4096,
-            exchanges: 1024,
-            nonce_life: 300,
-            open_life: 60,
-            finished_life: 3600,
+            shards: MOST_SHARDS,
+            nonces: NONCES,
+            exchanges: EXCHANGES,
+            nonce_life: NONCE_LIFE,
+            open_life: OPEN_LIFE,
+            finished_life: FINISHED_LIFE,
+            uses: USES,
         }
     }
 
@@ -37,4 +61,11 @@ impl Sizes {
             ..Sizes::standard()
         }
     }
+}
+
+/// What a shard is opened with: its number, which its names have, and the sizes of its table.
+#[derive(Clone, Copy, Debug, PartialEq, Eq)]
+pub struct Setting {
+    pub number: u16,
+    pub sizes: Sizes,
 }
