@@ -1,0 +1,9 @@
+pub mod ListFacts
+pub mod HistoryFacts
+pub mod Revising
+pub mod TurnSteps
+pub mod CommitStep
+pub mod SplitSteps
+pub mod JoinSteps
+pub mod Closing
+pub mod CallPath
