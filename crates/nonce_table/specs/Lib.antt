@@ -1,0 +1,4 @@
+pub mod Passes
+pub mod Shards
+pub mod Tables
+pub mod Closing
