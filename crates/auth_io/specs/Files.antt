@@ -33,6 +33,14 @@ ReadAnswers (Some m) name limit TooLarge = (bytes : List ℕ) × (map.get m name
 ReadAnswers (Some m) name limit Failed = ⊤
 ReadAnswers (Some m) name limit OutOfMemory = ⊤
 
+-- a file that was found has at most this many bytes
+abbrev pub HasAtMost : ℕ → FileAnswer → Type 0
+HasAtMost limit (Found bytes) = length bytes ≤ limit
+HasAtMost limit Absent = ⊤
+HasAtMost limit TooLarge = ⊤
+HasAtMost limit Failed = ⊤
+HasAtMost limit OutOfMemory = ⊤
+
 -- the list of what was asked has grown by this
 abbrev pub AddsAsked : Option (List (List ℕ × Ending)) → Option (List (List ℕ × Ending)) → List (List ℕ × Ending) → Type 0
 AddsAsked None new more = ⊤

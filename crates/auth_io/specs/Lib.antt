@@ -4,3 +4,7 @@ pub mod Reads
 pub mod Writes
 pub mod Scripts
 pub mod Files
+pub mod Plans
+pub mod Handing
+pub mod Memory
+pub mod Accepting

@@ -2,11 +2,14 @@
 //! what a real stream, file, clock or random source gave is not proved.
 
 mod clock;
+mod counts;
 mod files;
 mod link;
+mod tcp;
 mod words;
 
 pub use clock::SystemClock;
 pub use files::DiskFiles;
 pub use link::StdLink;
+pub use tcp::{TcpAccept, TcpLink};
 pub use words::OsWords;

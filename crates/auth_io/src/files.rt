@@ -39,7 +39,7 @@ pub enum Ending {
 /// An object that reads files holds its allocator.
 pub trait Files {
     ghost use Rattle.auth_io.specs.declared.files.Ending.{Ending};
-    ghost use Rattle.auth_io.specs.Files.{Contents, ReadAnswers, AddsAsked, read_entry, ReadRose, ReplaceRose, ReplaceSays};
+    ghost use Rattle.auth_io.specs.Files.{Contents, ReadAnswers, HasAtMost, AddsAsked, read_entry, ReadRose, ReplaceRose, ReplaceSays};
 
     ghost contents: { Self → Option Contents };
 
@@ -51,6 +51,7 @@ pub trait Files {
     /// The file's bytes, where there are at most `limit`.
     fn read(&mut self, name: &[u8], limit: u64) -> FileAnswer
         ensures answer { ReadAnswers (contents self.old) name.now limit result }
+        ensures within { HasAtMost limit result }
         ensures contents { contents self.new ≡ contents self.old }
         ensures asked { AddsAsked (asked self.old) (asked self.new) (read_entry name.now result) }
         ensures later { faults self.old ≤ faults self.new }

@@ -1,10 +1,11 @@
 //! The outside of a server or a client, as traits that say what each call does to what they hold:
-//! streams and connections, files, a clock, a source of random words.
+//! streams and connections, what hands out connections, files, a clock, a source of random words.
 //!
 //! Each trait counts its faults, so a caller can say that it answers a fault only where one came.
 //! What an object holds is optional: a form in memory tells it, an adapter over the real thing tells nothing.
 #![tactic(auto)]
 
+mod accept;
 mod adapters;
 mod clock;
 mod files;
@@ -12,10 +13,13 @@ mod memory;
 mod stream;
 mod words;
 
-pub use adapters::{DiskFiles, OsWords, StdLink, SystemClock};
+pub use accept::Accept;
+pub use adapters::{DiskFiles, OsWords, StdLink, SystemClock, TcpAccept, TcpLink};
 pub use clock::Clock;
 pub use files::{Ending, FileAnswer, Files, Replaced};
-pub use memory::{MemClock, MemFiles, MemLink, MemSink, MemSource, MemWords, SureLink, SureWords};
+pub use memory::{
+    MemAccept, MemClock, MemFiles, MemLink, MemSink, MemSource, MemWords, SureLink, SureWords,
+};
 pub use stream::{Failed, Link, Sink, Source, Wrote};
 pub use words::Words;
 

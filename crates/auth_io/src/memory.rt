@@ -4,6 +4,7 @@
 //! and past the list's end a call takes all that it can. A failing list has the numbers of the calls that
 //! are to fail, counted from 1.
 
+mod accept;
 mod clock;
 mod files;
 mod link;
@@ -13,6 +14,7 @@ mod streams;
 mod supply;
 mod words;
 
+pub use accept::MemAccept;
 pub use clock::MemClock;
 pub use files::MemFiles;
 pub use link::{MemLink, SureLink};

@@ -1,10 +1,11 @@
 //! What no clause says: which calls the forms in memory fail, and that the adapters reach the real things.
 use crate::{
-    Clock, DiskFiles, FileAnswer, Files, Link, MemClock, MemFiles, MemLink, MemWords, OsWords,
-    Replaced, StdLink, SystemClock, Words, Wrote,
+    Accept, Clock, DiskFiles, FileAnswer, Files, Link, MemClock, MemFiles, MemLink, MemWords,
+    OsWords, Replaced, StdLink, SystemClock, TcpAccept, TcpLink, Words, Wrote,
 };
 use auth_grammar::Octets;
 use std::alloc::Global;
+use std::net::{TcpListener, TcpStream};
 use std::process::Abort;
 use std::test::Fail;
 
@@ -134,4 +135,36 @@ fn two_draws_of_the_system_differ(rt: HostRuntime) {
     let first = random.draw().ok();
     assert!(rt; first.is_some());
     assert!(rt; first != random.draw().ok());
+}
+
+/// The next connection gives these bytes first, takes a reply, and is closed with the rest of its input unread.
+fn check_serves<A: Accept>(rt: &impl Abort, accept: &mut A, wanted: &[u8], reply: &[u8]) {
+    let Ok(mut link) = accept.accept() else {
+        panic!(rt; "no connection");
+    };
+    check_gives(rt, &mut link, Some(wanted));
+    assert_eq!(rt; link.write(reply), Wrote::Taken(reply.len()));
+    accept.done(link);
+}
+
+#[test]
+fn connections_over_tcp_end_with_their_reply_though_input_is_left(
+    rt: HostRuntime,
+) -> Result<(), Fail> {
+    let listener = TcpListener::bind(&rt, "127.0.0.1:0")?;
+    let address = listener.local_addr()?;
+    let mut first = TcpLink::new(TcpStream::connect(&rt, address)?)?;
+    let mut second = TcpLink::new(TcpStream::connect(&rt, address)?)?;
+    assert_eq!(rt; first.write(b"abcdefgh and more"), Wrote::Taken(17));
+    assert_eq!(rt; second.write(b"12345678 and more"), Wrote::Taken(17));
+    // two workers share the listening socket
+    check_serves(&rt, &mut TcpAccept::new(&listener), b"abcdefgh", b"xyz");
+    check_serves(&rt, &mut TcpAccept::new(&listener), b"12345678", b"uvw");
+    check_gives(&rt, &mut first, Some(b"xyz"));
+    check_gives(&rt, &mut first, Some(b""));
+    check_gives(&rt, &mut second, Some(b"uvw"));
+    check_gives(&rt, &mut second, Some(b""));
+    first.close();
+    second.close();
+    Ok(())
 }

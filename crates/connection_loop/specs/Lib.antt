@@ -3,3 +3,4 @@ pub mod Session
 pub mod Account
 pub mod Results
 pub mod Steps
+pub mod Prefixes

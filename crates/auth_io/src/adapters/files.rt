@@ -1,4 +1,6 @@
 //! Files on disk.
+ghost use Rattle.std.specs.Prelude.{◌≡◌, ◌≤◌, IfOk, length};
+
 use crate::files::{FileAnswer, Files, Replaced};
 use auth_grammar::Octets;
 use std::alloc::{AllocError, Global};
@@ -8,9 +10,6 @@ use std::rt::Files as FileSystem;
 
 /// How many names for a new file beside the old one are tried.
 const SPARE_NAMES: u32 = 64;
-
-/// How many bytes are read at a time.
-const PIECE: usize = 16_384;
 
 /// The files of the system's file system. A name is a path, as UTF-8.
 ///
@@ -25,7 +24,9 @@ pub struct DiskFiles<'r, R> {
 }
 
 impl<'r, R: FileSystem> DiskFiles<'r, R> {
-    pub fn new(system: &'r R, alloc: Global) -> DiskFiles<'r, R> {
+    pub fn new(system: &'r R, alloc: Global) -> DiskFiles<'r, R>
+        ensures { ⟦<DiskFiles<'r, R> as Files>⟧.faults result ≡ 0 }
+    {
         DiskFiles {
             system,
             alloc,
@@ -68,27 +69,23 @@ fn path_of(name: &[u8]) -> Result<&str, Cause> {
     str::from_utf8(name).map_err(|_| Cause::Absent)
 }
 
-/// All that a reader gives, where it is at most `limit` bytes.
-fn read_whole<F: Read>(alloc: Global, file: &mut F, limit: u64) -> Result<Octets, Cause> {
-    let mut bytes = Octets::new(alloc);
-    let mut piece = [0; PIECE];
-    for _ in 0..u64::MAX {
-        let count = match file.read(&mut piece) {
-            Ok(count) => count,
-            Err(error) if error.kind() == ErrorKind::Interrupted => continue,
-            Err(error) => return Err(Cause::from(error)),
-        };
-        if count == 0 {
-            return Ok(bytes);
-        }
-        if bytes.len() as u64 + count as u64 > limit {
-            return Err(Cause::TooLarge);
-        }
-        if bytes.extend(&piece[..count]).is_err() {
-            return Err(Cause::Memory);
-        }
+/// All that a reader gives, where it is at most `limit` bytes. It is thought to be this many.
+fn read_whole<F: Read + Drop>(
+    alloc: Global,
+    reader: F,
+    expected: u64,
+    limit: u64,
+) -> Result<Octets, Cause>
+    ensures { IfOk result (λ bytes. length bytes ≤ limit) }
+{
+    let mut bytes = Vec::with_capacity(alloc, expected as usize)?;
+    reader
+        .take(limit.saturating_add(1))
+        .read_to_end(&mut bytes)?;
+    if bytes.len() as u64 > limit {
+        return Err(Cause::TooLarge);
     }
-    Err(Cause::Fault)
+    Ok(Octets::from_vec(bytes))
 }
 
 /// The bytes of a file, where there are at most `limit`.
@@ -97,8 +94,10 @@ fn read_file<R: FileSystem>(
     alloc: Global,
     name: &[u8],
     limit: u64,
-) -> Result<Octets, Cause> {
-    let mut file = File::open(system, path_of(name)?)?;
+) -> Result<Octets, Cause>
+    ensures { IfOk result (λ bytes. length bytes ≤ limit) }
+{
+    let file = File::open(system, path_of(name)?)?;
     let metadata = OpenFile::metadata(&file)?;
     if metadata.is_dir() {
         return Err(Cause::Absent);
@@ -106,7 +105,7 @@ fn read_file<R: FileSystem>(
     if metadata.len() > limit {
         return Err(Cause::TooLarge);
     }
-    read_whole(alloc, &mut file, limit)
+    read_whole(alloc, file, metadata.len(), limit)
 }
 
 /// A name beside the given one.

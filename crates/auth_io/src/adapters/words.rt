@@ -1,4 +1,6 @@
 //! The system's source of random words.
+ghost use Rattle.std.specs.Prelude.{◌≡◌};
+
 use crate::stream::Failed;
 use crate::words::Words;
 use std::random::RandomSource;
@@ -11,7 +13,9 @@ pub struct OsWords<'r, R> {
 }
 
 impl<'r, R: RandomSource> OsWords<'r, R> {
-    pub fn new(system: &'r R) -> OsWords<'r, R> {
+    pub fn new(system: &'r R) -> OsWords<'r, R>
+        ensures { ⟦<OsWords<'r, R> as Words>⟧.faults result ≡ 0 }
+    {
         OsWords { system, faults: 0 }
     }
 }

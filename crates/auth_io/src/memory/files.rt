@@ -1,6 +1,6 @@
 //! Files in memory.
 ghost use Rattle.std.specs.Prelude.{◌≡◌, ◌∷◌, [], ℕ, List, Some, None, option_copied, IfOk};
-ghost use Rattle.auth_io.specs.Files.{contents_of, found_in, ReadAnswers, IsNoReadFault};
+ghost use Rattle.auth_io.specs.Files.{contents_of, found_in, ReadAnswers, HasAtMost, IsNoReadFault};
 
 use crate::files::{Ending, FileAnswer, Files, Replaced};
 use crate::memory::schedule::is_listed;
@@ -21,6 +21,8 @@ pub struct MemFiles {
 }
 
 impl MemFiles {
+    ghost use Rattle.auth_io.specs.Memory.{failing_plan, files_plan, files_done_plan};
+
     /// Of two entries with one name the first counts.
     pub fn new(
         alloc: Global,
@@ -31,6 +33,8 @@ impl MemFiles {
         ensures contents { ⟦<MemFiles as Files>⟧.contents result ≡ Some (contents_of contents.items) }
         ensures asked { ⟦<MemFiles as Files>⟧.asked result ≡ Some [] }
         ensures faults { ⟦<MemFiles as Files>⟧.faults result ≡ 0 }
+        ensures plan { files_plan result ≡ failing_plan failing.items 0 }
+        ensures done_plan { files_done_plan result ≡ failing_plan failing_done.items 0 }
     {
         MemFiles {
             contents,
@@ -73,6 +77,7 @@ fn find<'a>(contents: &'a [(Octets, Octets)], name: &[u8]) -> Option<&'a Octets>
 /// What reading a file of these answers, where the call doesn't fail.
 fn look(alloc: Global, contents: &[(Octets, Octets)], name: &[u8], limit: u64) -> FileAnswer
     ensures answer { ReadAnswers (Some (contents_of contents.now)) name.now limit result }
+    ensures within { HasAtMost limit result }
     ensures no_fault { IsNoReadFault result }
 {
     let Some(bytes) = find(contents, name) else {
@@ -88,8 +93,10 @@ fn look(alloc: Global, contents: &[(Octets, Octets)], name: &[u8], limit: u64) -
 }
 
 impl Files for MemFiles {
-    ghost use Rattle.std.specs.Prelude.{Some};
-    ghost use Rattle.auth_io.specs.Files.{contents_of};
+    ghost use Rattle.std.specs.Prelude.{◌≤◌, Some};
+    ghost use Rattle.auth_io.specs.Files.{contents_of, AddsAsked, read_entry, ReadRose, ReplaceRose, ReplaceSays};
+    ghost use Rattle.auth_io.specs.Memory.{files_plan, files_done_plan};
+    ghost use Rattle.auth_io.specs.Plans.{FoundBy, ReplacedBy, after_call, next_fails, planned_ending};
 
     ghost contents = { λ s. Some (contents_of s.contents.items) };
 
@@ -97,14 +104,25 @@ impl Files for MemFiles {
 
     ghost faults = { λ s. s.faults };
 
-    fn read(&mut self, name: &[u8], limit: u64) -> FileAnswer {
+    fn read(&mut self, name: &[u8], limit: u64) -> FileAnswer
+        ensures answer { ReadAnswers (⟦<MemFiles as Files>⟧.contents self.old) name.now limit result }
+        ensures within { HasAtMost limit result }
+        ensures contents { ⟦<MemFiles as Files>⟧.contents self.new ≡ ⟦<MemFiles as Files>⟧.contents self.old }
+        ensures asked { AddsAsked (⟦<MemFiles as Files>⟧.asked self.old) (⟦<MemFiles as Files>⟧.asked self.new)
+            (read_entry name.now result) }
+        ensures later { ⟦<MemFiles as Files>⟧.faults self.old ≤ ⟦<MemFiles as Files>⟧.faults self.new }
+        ensures cause { ReadRose result (⟦<MemFiles as Files>⟧.faults self.old) (⟦<MemFiles as Files>⟧.faults self.new) }
+        ensures planned { FoundBy (next_fails (files_plan self.old)) result }
+        ensures plan { files_plan self.new ≡ after_call (files_plan self.old) }
+        ensures done_plan { files_done_plan self.new ≡ after_call (files_done_plan self.old) }
+    {
+        self.calls = self.calls.saturating_add(1);
         let Ok(key) = Octets::of(self.alloc, name) else {
             return FileAnswer::OutOfMemory;
         };
         let Ok(()) = self.asked.reserve(1) else {
             return FileAnswer::OutOfMemory;
         };
-        self.calls = self.calls.saturating_add(1);
         if is_listed(self.failing.as_slice(), self.calls) {
             self.faults = self.faults.saturating_add(1);
             self.asked.push_reserved((key, Ending::FailedBefore));
@@ -118,14 +136,23 @@ impl Files for MemFiles {
         answer
     }
 
-    fn replace(&mut self, name: &[u8], bytes: &[u8]) -> Replaced {
+    fn replace(&mut self, name: &[u8], bytes: &[u8]) -> Replaced
+        ensures says { ReplaceSays (⟦<MemFiles as Files>⟧.contents self.old) (⟦<MemFiles as Files>⟧.contents self.new)
+            (⟦<MemFiles as Files>⟧.asked self.old) (⟦<MemFiles as Files>⟧.asked self.new) name.now bytes.now result }
+        ensures later { ⟦<MemFiles as Files>⟧.faults self.old ≤ ⟦<MemFiles as Files>⟧.faults self.new }
+        ensures cause { ReplaceRose result (⟦<MemFiles as Files>⟧.faults self.old) (⟦<MemFiles as Files>⟧.faults self.new) }
+        ensures planned { ReplacedBy (planned_ending (next_fails (files_plan self.old)) (next_fails (files_done_plan self.old)))
+            self.old.asked.items self.new.asked.items name.now result }
+        ensures plan { files_plan self.new ≡ after_call (files_plan self.old) }
+        ensures done_plan { files_done_plan self.new ≡ after_call (files_done_plan self.old) }
+    {
+        self.calls = self.calls.saturating_add(1);
         let Ok(key) = Octets::of(self.alloc, name) else {
             return Replaced::OutOfMemory;
         };
         let Ok(()) = self.asked.reserve(1) else {
             return Replaced::OutOfMemory;
         };
-        self.calls = self.calls.saturating_add(1);
         if is_listed(self.failing.as_slice(), self.calls) {
             self.faults = self.faults.saturating_add(1);
             self.asked.push_reserved((key, Ending::FailedBefore));

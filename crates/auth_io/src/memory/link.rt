@@ -23,6 +23,9 @@ pub struct MemLink {
 }
 
 impl MemLink {
+    ghost use Rattle.auth_io.specs.Handing.{has_fault};
+    ghost use Rattle.auth_io.specs.Memory.{IsUnused, read_plan, read_room, write_plan};
+
     /// `room` is the number of reads that may answer; a read past it fails.
     pub fn new(
         alloc: Global,
@@ -39,6 +42,12 @@ impl MemLink {
         ensures reads { IfOk result (λ link. ⟦<MemLink as Link>⟧.reads link ≡ Some []) }
         ensures read_faults { IfOk result (λ link. ⟦<MemLink as Link>⟧.read_faults link ≡ 0) }
         ensures write_faults { IfOk result (λ link. ⟦<MemLink as Link>⟧.write_faults link ≡ 0) }
+        ensures unused { IfOk result IsUnused }
+        ensures read_plan { IfOk result (λ link.
+            read_plan link ≡ record { sizes = pieces.items; failing = failing_reads.items; calls = 0 }) }
+        ensures write_plan { IfOk result (λ link.
+            write_plan link ≡ record { sizes = takes.items; failing = failing_writes.items; calls = 0 }) }
+        ensures room { IfOk result (λ link. read_room link ≡ room) }
     {
         Ok(MemLink {
             supply: Supply::new(left),
@@ -65,10 +74,24 @@ impl MemLink {
     {
         self.noted.as_slice()
     }
+
+    /// Whether a read or a write of it has failed.
+    pub fn has_failed(&self) -> bool
+        ensures { result ≡ has_fault (⟦<MemLink as Link>⟧.read_faults self.now) (⟦<MemLink as Link>⟧.write_faults self.now) }
+    {
+        self.read_faults > 0 || self.write_faults > 0
+    }
 }
 
 impl Link for MemLink {
-    ghost use Rattle.std.specs.Prelude.{drop, Some};
+    ghost use Rattle.std.specs.Prelude.{◌+◌, ◌<◌, ◌^◌, drop, length, OnOk, OnErr};
+    ghost use Rattle.std.specs.Io.{ReadsAtMost};
+    ghost use Rattle.std.specs.Io.KnownBytes.{ReadConsumes};
+    ghost use Rattle.auth_io.specs.Causes.{HasCause};
+    ghost use Rattle.auth_io.specs.Reads.{NotesRead};
+    ghost use Rattle.auth_io.specs.Writes.{TakesSome, Writes, HasWriteCause};
+    ghost use Rattle.auth_io.specs.Memory.{bytes_of, next_read_fails, read_plan, read_room, write_plan};
+    ghost use Rattle.auth_io.specs.Plans.{ReadsBy, WritesBy, after_call, next_fails, next_size};
 
     ghost left = { λ s. Some (drop s.supply.at s.supply.bytes) };
 
@@ -82,11 +105,31 @@ impl Link for MemLink {
 
     ghost write_faults = { λ s. s.write_faults };
 
-    fn read(&mut self, into: &mut [u8]) -> Result<usize, Failed> {
-        let limit = self.reading.next();
-        let Some(limit) = limit.filter(|_| self.noted.len() < self.room as usize) else {
-            self.read_faults = self.read_faults.saturating_add(1);
-            return Err(Failed);
+    fn read(&mut self, into: &mut [u8]) -> Result<usize, Failed>
+        ensures bound { ReadsAtMost result into.new }
+        ensures bytes { ReadConsumes (⟦<MemLink as Link>⟧.left self.old) (⟦<MemLink as Link>⟧.left self.new) result into.new }
+        ensures given { IfOk result (λ n. (⟦<MemLink as Link>⟧.given self.new ≡ ⟦<MemLink as Link>⟧.given self.old + n)
+            × (⟦<MemLink as Link>⟧.given self.new < 2 ^ 63)) }
+        ensures left_at_fault { OnErr result (⟦<MemLink as Link>⟧.left self.new ≡ ⟦<MemLink as Link>⟧.left self.old) }
+        ensures given_at_fault { OnErr result (⟦<MemLink as Link>⟧.given self.new ≡ ⟦<MemLink as Link>⟧.given self.old) }
+        ensures reads { OnOk result (NotesRead (⟦<MemLink as Link>⟧.reads self.old) (⟦<MemLink as Link>⟧.reads self.new)
+            (⟦<MemLink as Link>⟧.given self.old) (⟦<MemLink as Link>⟧.written self.old)) }
+        ensures reads_at_fault { OnErr result (⟦<MemLink as Link>⟧.reads self.new ≡ ⟦<MemLink as Link>⟧.reads self.old) }
+        ensures written { ⟦<MemLink as Link>⟧.written self.new ≡ ⟦<MemLink as Link>⟧.written self.old }
+        ensures cause { HasCause (⟦<MemLink as Link>⟧.read_faults self.old) (⟦<MemLink as Link>⟧.read_faults self.new) result }
+        ensures write_faults { ⟦<MemLink as Link>⟧.write_faults self.new ≡ ⟦<MemLink as Link>⟧.write_faults self.old }
+        ensures planned { ReadsBy (next_read_fails self.old) (next_size (read_plan self.old))
+            (length (bytes_of self.old)) (length into.old) result }
+        ensures read_plan { read_plan self.new ≡ after_call (read_plan self.old) }
+        ensures write_plan { write_plan self.new ≡ write_plan self.old }
+        ensures room { read_room self.new ≡ read_room self.old }
+    {
+        let limit = match self.reading.next() {
+            Some(limit) if self.noted.len() < self.room as usize => limit,
+            _ => {
+                self.read_faults = self.read_faults.saturating_add(1);
+                return Err(Failed);
+            }
         };
         let before = (self.supply.given() as u64, self.written.len() as u64);
         self.noted.push_reserved(before);
@@ -95,7 +138,19 @@ impl Link for MemLink {
         Ok(count)
     }
 
-    fn write(&mut self, from: &[u8]) -> Wrote {
+    fn write(&mut self, from: &[u8]) -> Wrote
+        ensures some { TakesSome result from.now }
+        ensures bytes { Writes (⟦<MemLink as Link>⟧.written self.old) (⟦<MemLink as Link>⟧.written self.new) result from.now }
+        ensures left { ⟦<MemLink as Link>⟧.left self.new ≡ ⟦<MemLink as Link>⟧.left self.old }
+        ensures given { ⟦<MemLink as Link>⟧.given self.new ≡ ⟦<MemLink as Link>⟧.given self.old }
+        ensures reads { ⟦<MemLink as Link>⟧.reads self.new ≡ ⟦<MemLink as Link>⟧.reads self.old }
+        ensures cause { HasWriteCause (⟦<MemLink as Link>⟧.write_faults self.old) (⟦<MemLink as Link>⟧.write_faults self.new) result }
+        ensures read_faults { ⟦<MemLink as Link>⟧.read_faults self.new ≡ ⟦<MemLink as Link>⟧.read_faults self.old }
+        ensures planned { WritesBy (next_fails (write_plan self.old)) (next_size (write_plan self.old)) (length from.now) result }
+        ensures write_plan { write_plan self.new ≡ after_call (write_plan self.old) }
+        ensures read_plan { read_plan self.new ≡ read_plan self.old }
+        ensures room { read_room self.new ≡ read_room self.old }
+    {
         let Some(limit) = self.writing.next() else {
             self.write_faults = self.write_faults.saturating_add(1);
             return Wrote::Failed;
@@ -114,10 +169,14 @@ pub struct SureLink {
 }
 
 impl SureLink {
+    ghost use Rattle.auth_io.specs.Memory.{sure_read_plan, sure_write_plan};
+
     pub fn new(alloc: Global, left: Octets, pieces: Vec<u32>, takes: Vec<u32>) -> SureLink
         ensures left { ⟦<SureLink as Link>⟧.left result ≡ Some left }
         ensures written { ⟦<SureLink as Link>⟧.written result ≡ Some [] }
         ensures given { ⟦<SureLink as Link>⟧.given result ≡ 0 }
+        ensures read_plan { sure_read_plan result ≡ record { sizes = pieces.items; failing = []; calls = 0 } }
+        ensures write_plan { sure_write_plan result ≡ record { sizes = takes.items; failing = []; calls = 0 } }
     {
         SureLink {
             supply: Supply::new(left),
@@ -136,7 +195,14 @@ impl SureLink {
 }
 
 impl Link for SureLink {
-    ghost use Rattle.std.specs.Prelude.{drop, Some, None};
+    ghost use Rattle.std.specs.Prelude.{◌+◌, ◌<◌, ◌^◌, drop, length, false, None, OnOk, OnErr};
+    ghost use Rattle.std.specs.Io.{ReadsAtMost};
+    ghost use Rattle.std.specs.Io.KnownBytes.{ReadConsumes};
+    ghost use Rattle.auth_io.specs.Causes.{HasCause};
+    ghost use Rattle.auth_io.specs.Reads.{NotesRead};
+    ghost use Rattle.auth_io.specs.Writes.{TakesSome, Writes, HasWriteCause};
+    ghost use Rattle.auth_io.specs.Memory.{sure_left, sure_read_plan, sure_write_plan};
+    ghost use Rattle.auth_io.specs.Plans.{ReadsBy, WritesBy, after_call, next_size};
 
     ghost left = { λ s. Some (drop s.supply.at s.supply.bytes) };
 
@@ -150,14 +216,41 @@ impl Link for SureLink {
 
     ghost write_faults = { λ _. 0 };
 
-    fn read(&mut self, into: &mut [u8]) -> Result<usize, Failed> {
+    fn read(&mut self, into: &mut [u8]) -> Result<usize, Failed>
+        ensures bound { ReadsAtMost result into.new }
+        ensures bytes { ReadConsumes (⟦<SureLink as Link>⟧.left self.old) (⟦<SureLink as Link>⟧.left self.new) result into.new }
+        ensures given { IfOk result (λ n. (⟦<SureLink as Link>⟧.given self.new ≡ ⟦<SureLink as Link>⟧.given self.old + n)
+            × (⟦<SureLink as Link>⟧.given self.new < 2 ^ 63)) }
+        ensures left_at_fault { OnErr result (⟦<SureLink as Link>⟧.left self.new ≡ ⟦<SureLink as Link>⟧.left self.old) }
+        ensures given_at_fault { OnErr result (⟦<SureLink as Link>⟧.given self.new ≡ ⟦<SureLink as Link>⟧.given self.old) }
+        ensures reads { OnOk result (NotesRead (⟦<SureLink as Link>⟧.reads self.old) (⟦<SureLink as Link>⟧.reads self.new)
+            (⟦<SureLink as Link>⟧.given self.old) (⟦<SureLink as Link>⟧.written self.old)) }
+        ensures reads_at_fault { OnErr result (⟦<SureLink as Link>⟧.reads self.new ≡ ⟦<SureLink as Link>⟧.reads self.old) }
+        ensures written { ⟦<SureLink as Link>⟧.written self.new ≡ ⟦<SureLink as Link>⟧.written self.old }
+        ensures cause { HasCause (⟦<SureLink as Link>⟧.read_faults self.old) (⟦<SureLink as Link>⟧.read_faults self.new) result }
+        ensures write_faults { ⟦<SureLink as Link>⟧.write_faults self.new ≡ ⟦<SureLink as Link>⟧.write_faults self.old }
+        ensures planned { ReadsBy false (next_size (sure_read_plan self.old)) (length (sure_left self.old)) (length into.old) result }
+        ensures read_plan { sure_read_plan self.new ≡ after_call (sure_read_plan self.old) }
+        ensures write_plan { sure_write_plan self.new ≡ sure_write_plan self.old }
+    {
         let limit = self.reading.next_size();
         let count = self.supply.give(limit, into);
         let _given = self.supply.given();
         Ok(count)
     }
 
-    fn write(&mut self, from: &[u8]) -> Wrote {
+    fn write(&mut self, from: &[u8]) -> Wrote
+        ensures some { TakesSome result from.now }
+        ensures bytes { Writes (⟦<SureLink as Link>⟧.written self.old) (⟦<SureLink as Link>⟧.written self.new) result from.now }
+        ensures left { ⟦<SureLink as Link>⟧.left self.new ≡ ⟦<SureLink as Link>⟧.left self.old }
+        ensures given { ⟦<SureLink as Link>⟧.given self.new ≡ ⟦<SureLink as Link>⟧.given self.old }
+        ensures reads { ⟦<SureLink as Link>⟧.reads self.new ≡ ⟦<SureLink as Link>⟧.reads self.old }
+        ensures cause { HasWriteCause (⟦<SureLink as Link>⟧.write_faults self.old) (⟦<SureLink as Link>⟧.write_faults self.new) result }
+        ensures read_faults { ⟦<SureLink as Link>⟧.read_faults self.new ≡ ⟦<SureLink as Link>⟧.read_faults self.old }
+        ensures planned { WritesBy false (next_size (sure_write_plan self.old)) (length from.now) result }
+        ensures write_plan { sure_write_plan self.new ≡ after_call (sure_write_plan self.old) }
+        ensures read_plan { sure_read_plan self.new ≡ sure_read_plan self.old }
+    {
         let limit = self.writing.next_size();
         keep_front(&mut self.written, limit, from)
     }

@@ -1,5 +1,8 @@
 //! How much each call takes, and which calls fail.
-ghost use Rattle.std.specs.Prelude.{◌≡◌, ◌<◌, IfSome};
+ghost use Rattle.std.specs.Prelude.{◌≡◌, ◌<◌, true, false, MatchOption};
+ghost use Rattle.auth_io.specs.Plans.{Plan, after_call, is_listed, next_fails, next_size};
+
+use std::marker::Model;
 
 /// How much each call takes at most, and the numbers of the calls that are to fail, counted from 1.
 #[derive(Drop)]
@@ -9,8 +12,16 @@ pub(crate) struct Schedule {
     calls: u64,
 }
 
+impl Model for Schedule {
+    ghost Value = { Plan };
+
+    ghost view = { λ s. record { sizes = s.sizes.items; failing = s.failing.items; calls = s.calls } };
+}
+
 impl Schedule {
-    pub(crate) fn new(sizes: Vec<u32>, failing: Vec<u32>) -> Schedule {
+    pub(crate) fn new(sizes: Vec<u32>, failing: Vec<u32>) -> Schedule
+        ensures { result ≡ record { sizes = sizes.items; failing = failing.items; calls = 0 } }
+    {
         Schedule {
             sizes,
             failing,
@@ -20,7 +31,9 @@ impl Schedule {
 
     /// How much the next call takes at most.
     pub(crate) fn next_size(&mut self) -> usize
-        ensures { 0 < result }
+        ensures size { result ≡ next_size self.old }
+        ensures some { 0 < result }
+        ensures after { self.new ≡ after_call self.old }
     {
         let number = self.calls;
         self.calls = number.saturating_add(1);
@@ -33,7 +46,9 @@ impl Schedule {
 
     /// The same, or None where the call is to fail.
     pub(crate) fn next(&mut self) -> Option<usize>
-        ensures { IfSome result (λ size. 0 < size) }
+        ensures size { MatchOption result (next_fails self.old ≡ true)
+            (λ size. (next_fails self.old ≡ false) × (size ≡ next_size self.old) × (0 < size)) }
+        ensures after { self.new ≡ after_call self.old }
     {
         let size = self.next_size();
         if is_listed(self.failing.as_slice(), self.calls) {
@@ -44,6 +59,8 @@ impl Schedule {
 }
 
 /// Whether the number is in the list.
-pub(crate) fn is_listed(numbers: &[u32], number: u64) -> bool {
+pub(crate) fn is_listed(numbers: &[u32], number: u64) -> bool
+    ensures { result ≡ is_listed numbers.now number }
+{
     numbers.iter().any(|n| u64::from(*n) == number)
 }

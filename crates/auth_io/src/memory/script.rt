@@ -20,8 +20,10 @@ impl<T: Copy + Drop> Script<T> {
 
     /// The next answer, the last again past the list's end, or the default where the list is empty.
     pub(crate) fn next(&mut self, default: T) -> T
-        ensures shown { Adds (Some (given_first default self.old.answers.items self.old.given)) (Some (given_first default self.new.answers.items self.new.given)) (result ∷ []) }
-        ensures coming { GivesFirst default (Some (coming_after self.old.answers.items self.old.given)) (Some (coming_after self.new.answers.items self.new.given)) result }
+        ensures shown { Adds (Some (given_first default self.old.answers.items self.old.given))
+            (Some (given_first default self.new.answers.items self.new.given)) (result ∷ []) }
+        ensures coming { GivesFirst default (Some (coming_after self.old.answers.items self.old.given))
+            (Some (coming_after self.new.answers.items self.new.given)) result }
     {
         let given = self.given;
         self.given = given.saturating_add(1);

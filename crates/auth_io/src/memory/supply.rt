@@ -1,5 +1,5 @@
 //! Bytes that are given from the first on.
-ghost use Rattle.std.specs.Prelude.{◌≡◌, ◌≤◌, ◌<◌, ◌+◌, ◌-◌, ◌^◌, ◌++◌, [], length, take, drop};
+ghost use Rattle.std.specs.Prelude.{◌≡◌, ◌≤◌, ◌<◌, ◌+◌, ◌-◌, ◌^◌, ◌++◌, [], length, min, take, drop};
 
 use auth_grammar::Octets;
 
@@ -25,6 +25,7 @@ impl Supply {
         ensures bytes { self.new.bytes ≡ self.old.bytes }
         ensures at { self.new.at ≡ self.old.at + result }
         ensures bound { result ≤ length into.new }
+        ensures all { result ≡ min (min limit (length into.old)) (length (drop self.old.at self.old.bytes)) }
         ensures given { drop self.old.at self.old.bytes ≡ take result into.new ++ drop self.new.at self.new.bytes }
         ensures at_end { result ≡ 0 → 0 < length into.new → drop self.new.at self.new.bytes ≡ [] }
     {
@@ -48,6 +49,7 @@ fn copy_front(from: &[u8], limit: usize, into: &mut [u8]) -> usize
     requires { 0 < limit }
     ensures in_from { result ≤ length from.now }
     ensures in_into { result ≤ length into.new }
+    ensures all { result ≡ min (min limit (length into.old)) (length from.now) }
     ensures copied { take result into.new ≡ take result from.now }
     ensures some { result ≡ 0 → 0 < length into.new → from.now ≡ [] }
 {
