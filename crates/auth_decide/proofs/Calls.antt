@@ -1,23 +1,33 @@
 -- How many calls of the table a decision may still make.
-use Rattle.std.proofs.Common.{ℕ, zero, suc, ◌≤◌, min, Bool, true, false, List, [], ◌∷◌, ◌++◌, Option, Some, None, arith}
+use Rattle.std.proofs.Common.{ℕ, zero, suc, ◌≤◌, min, fold, Bool, true, false, nat_lt, List, [], ◌∷◌, ◌++◌, Option, Some, None, arith}
 use Rattle.std.specs.Prelude.{if◌then◌else◌}
+use Rattle.arrayvec.specs.ArrayVec.{ArrayVec}
+use Rattle.cred_store.specs.declared.entry.Entry.{Entry}
+use Rattle.digest_fields.specs.Credentials.{Credentials}
+use Rattle.http_wire.specs.declared.request.Request.{Request}
 use Rattle.nonce_shard.specs.declared.calls.Reply.{Reply}
-use Rattle.nonce_shard.specs.declared.calls.Reply.TheVariants.{Issued, Prime, Fresh, Gone, Behind, Repeated, OtherSession, Opened, Taken, Kept, Session}
+use Rattle.nonce_shard.specs.declared.calls.Reply.TheVariants as reply
 use Rattle.nonce_shard.specs.declared.names.TableName.{TableName}
 use Rattle.spaces_map.specs.declared.space.Mode.{Mode}
 use Rattle.spaces_map.specs.declared.space.Mode.TheVariants as mode
 use Rattle.spaces_map.specs.declared.space.Space.{Space}
-use Rattle.auth_decide.specs.Asks.{Question, issued, called, peek, with_nonce, challenge, used, use_nonce, judged, peeked, within, tried, bare, on_course, in_space, in_place, asked, place_of, is_right, nonce_text, shard_for}
-use Rattle.auth_decide.specs.Courses.{course_of}
-use Rattle.auth_decide.specs.Challenges.{items_of}
-use Rattle.auth_decide.specs.declared.verdict.Verdict.TheVariants.{Open, Challenge}
-use Rattle.auth_decide.specs.declared.verdict.Answer.{Answer}
-use Rattle.auth_decide.specs.declared.verdict.Answer.TheVariants.{Words, Replied}
+use Rattle.auth_decide.specs.Asks.{ask_in, asked}
+use Rattle.auth_decide.specs.Candidates.{candidate_of}
+use Rattle.auth_decide.specs.Credentials.{presented}
+use Rattle.auth_decide.specs.Paths.{correspond}
+use Rattle.auth_decide.specs.Responses.{is_right}
+use Rattle.auth_decide.specs.Stages.{Answer, Question, Replied, Words, admitted_stage, candidate_stage, challenge_stage, digest_stage, first_stage, first_stage_in, mode_stage, name_within, presented_stage, protection_space, response_stage, right_stage, stage_after, stage_after_issue, stage_after_peek, stage_after_use, taken_stage}
+use Rattle.auth_decide.specs.declared.candidate.Candidate.{Candidate}
+use Rattle.auth_decide.specs.declared.credentials.Presented.{Presented}
+use Rattle.auth_decide.specs.declared.credentials.Presented.TheVariants as presents
+use Rattle.auth_decide.specs.declared.stages.Purpose.{Purpose}
+use Rattle.auth_decide.specs.declared.stages.Purpose.TheVariants.{Next}
+use Rattle.auth_decide.specs.declared.stages.Stage.{Stage}
+use Rattle.auth_decide.specs.declared.stages.Stage.TheVariants as stage
+use Rattle.auth_decide.specs.declared.stages.TheConstants.{NEXT_NONCE_USES}
 use Rattle.auth_decide.specs.declared.verdict.Ask.{Ask}
 use Rattle.auth_decide.specs.declared.verdict.Ask.TheVariants.{Draw, Table, Verdict}
-use Rattle.auth_decide.specs.declared.verdict.Candidate.{Candidate}
-use Rattle.auth_decide.specs.declared.verdict.Course.{Course}
-use Rattle.auth_decide.specs.declared.verdict.Course.TheVariants.{Bare, Wrong, Unfit, Fit}
+use Rattle.auth_decide.specs.declared.verdict.Why.TheVariants as why
 
 -- How many calls may come after these answers, of so many at first. Behind the draw there is one, which brings the nonce.
 abbrev pub calls_left : List Answer → ℕ → ℕ
@@ -46,109 +56,193 @@ IsCall (Verdict verdict) = ⊥
 abbrev pub Pays : ℕ → List Answer → Ask → Type 0
 Pays n answers ask = IsCall ask → (answer : Answer) → suc (calls_left (answers ++ answer ∷ []) n) ≤ calls_left answers n
 
-no_issue : (r : Reply) (next : ℕ → Ask) → ((serial : ℕ) → IsCall (next serial) → ⊥) → IsCall (issued r next) → ⊥
-no_issue (Issued serial) next none is = none serial is
-no_issue (Prime p) next none is = is
-no_issue Fresh next none is = is
-no_issue Gone next none is = is
-no_issue (Behind high) next none is = is
-no_issue Repeated next none is = is
-no_issue OtherSession next none is = is
-no_issue (Opened serial) next none is = is
-no_issue (Taken exchange) next none is = is
-no_issue Kept next none is = is
-no_issue (Session exchange) next none is = is
+-- ---- by stages
 
-nonce_pays : (q : Question) (space : Space) (answers : List Answer) (next : List ℕ → Ask) (n : ℕ) → ((nonce : List ℕ) → IsCall (next nonce) → ⊥) → Pays (suc n) answers (with_nonce q space answers next)
-nonce_pays q space [] next n none is answer = absurd is
-nonce_pays q space (Replied r ∷ rest) next n none is answer = absurd is
-nonce_pays q space (Words w ∷ []) next n none is answer = omega arith
-nonce_pays q space (Words w ∷ Words v ∷ rest) next n none is answer = absurd is
-nonce_pays q space (Words w ∷ Replied r ∷ rest) next n none is answer =
-    absurd (no_issue r (λ serial. next (nonce_text (shard_for q w) w serial)) (λ serial. none (nonce_text (shard_for q w) w serial)) is)
+-- how many may come from a stage on
+abbrev calls_at : Stage → ℕ
+calls_at (stage.Peeking c nonce) = 3
+calls_at (stage.Using c prime nonce) = 2
+calls_at (stage.Drawing purpose) = 1
+calls_at (stage.Issuing purpose words) = 1
+calls_at _ = 0
 
-challenge_pays : (q : Question) (space : Space) (stale : Bool) (answers : List Answer) (n : ℕ) → Pays (suc n) answers (challenge q space stale answers)
-challenge_pays q space stale answers n = nonce_pays q space answers (λ nonce. Verdict (Challenge (items_of q.role space nonce stale))) n (λ nonce none. none)
+-- a stage that no words lead to
+abbrev IsBeforeWords : Stage → Type 0
+IsBeforeWords (stage.Issuing purpose words) = ⊥
+IsBeforeWords _ = Unit {0}
 
-used_pays : (q : Question) (space : Space) (c : Candidate) (prime : List ℕ) (r : Reply) (rest : List Answer) (n : ℕ) → Pays (suc n) rest (used q space c prime r rest)
-used_pays q space c prime Fresh rest n is = absurd is
-used_pays q space c prime Gone rest n is = challenge_pays q space true rest n is
-used_pays q space c prime (Behind high) rest n is = challenge_pays q space true rest n is
-used_pays q space c prime Repeated rest n is = challenge_pays q space true rest n is
-used_pays q space c prime OtherSession rest n is = challenge_pays q space false rest n is
-used_pays q space c prime (Issued serial) rest n is = absurd is
-used_pays q space c prime (Prime p) rest n is = absurd is
-used_pays q space c prime (Opened serial) rest n is = absurd is
-used_pays q space c prime (Taken exchange) rest n is = absurd is
-used_pays q space c prime Kept rest n is = absurd is
-used_pays q space c prime (Session exchange) rest n is = absurd is
+-- such a stage, from which at most so many calls may come
+record CallsAtMost (n : ℕ) (s : Stage) : Type 0 where
+  few : calls_at s ≤ n
+  before : IsBeforeWords s
 
--- the first answer to a call, where one more may come
-first_pays : (n : ℕ) (answer : Answer) → suc (calls_left (answer ∷ []) (suc (suc n))) ≤ suc (suc n)
-first_pays n (Words w) = omega arith
-first_pays n (Replied r) = omega arith
+more : (m n : ℕ) (s : Stage) → m ≤ n → CallsAtMost m s → CallsAtMost n s
+more m n s less a = (let few = a.few in record { few = omega (arith, few, less); before = a.before })
 
-use_pays : (q : Question) (space : Space) (c : Candidate) (prime : List ℕ) (nonce : Option TableName) (answers : List Answer) (n : ℕ) → Pays (suc (suc n)) answers (use_nonce q space c prime nonce answers)
-use_pays q space c prime None answers n is answer = challenge_pays q space true answers (suc n) is answer
-use_pays q space c prime (Some nonce) [] n is answer = first_pays n answer
-use_pays q space c prime (Some nonce) (Words w ∷ rest) n is answer = absurd is
-use_pays q space c prime (Some nonce) (Replied r ∷ rest) n is answer = used_pays q space c prime r rest n is answer
+response_calls : (request : Request) (c : Candidate) (prime : List ℕ) (nonce : Option TableName) → CallsAtMost 2 (response_stage request c prime nonce)
+response_calls request c prime nonce = by (is_right request c prime) nonce
+  where
+    by : (right : Bool) (o : Option TableName) → CallsAtMost 2 (if right then right_stage c prime o else challenge_stage false)
+    by true None = record { few = omega arith; before = tt }
+    by true (Some name) = record { few = omega arith; before = tt }
+    by false o = record { few = omega arith; before = tt }
 
-either_pays : (b : Bool) (x y : Ask) (n : ℕ) (answers : List Answer) → Pays n answers x → Pays n answers y → Pays n answers (if b then x else y)
-either_pays true x y n answers p q is = p is
-either_pays false x y n answers p q is = q is
+peek_calls : (request : Request) (c : Candidate) (nonce : TableName) (r : Reply) → CallsAtMost 2 (stage_after_peek request c nonce r)
+peek_calls request c nonce (reply.Prime (Some prime)) = response_calls request c prime.items (Some nonce)
+peek_calls request c nonce (reply.Prime None) = response_calls request c c.credentials.cnonce (Some nonce)
+peek_calls request c nonce reply.Gone = response_calls request c c.credentials.cnonce None
+peek_calls request c nonce _ = record { few = omega arith; before = tt }
 
-judged_pays : (q : Question) (space : Space) (c : Candidate) (prime : List ℕ) (nonce : Option TableName) (answers : List Answer) (n : ℕ) → Pays (suc (suc n)) answers (judged q space c prime nonce answers)
-judged_pays q space c prime nonce answers n =
-    either_pays (is_right q.request c prime) (use_nonce q space c prime nonce answers) (challenge q space false answers) (suc (suc n)) answers
-    (use_pays q space c prime nonce answers n) (challenge_pays q space false answers (suc n))
+admitted_calls : (c : Candidate) (prime : ArrayVec ℕ) (uses : ℕ) → CallsAtMost 1 (admitted_stage c prime uses)
+admitted_calls c prime uses = by (nat_lt uses NEXT_NONCE_USES)
+  where
+    by : (few : Bool) → CallsAtMost 1 (if few then stage.Admitted c prime else stage.Drawing (Next c prime))
+    by true = record { few = omega arith; before = tt }
+    by false = record { few = omega arith; before = tt }
 
-peeked_pays : (q : Question) (space : Space) (c : Candidate) (nonce : TableName) (r : Reply) (rest : List Answer) (n : ℕ) → Pays (suc (suc n)) rest (peeked q space c nonce r rest)
-peeked_pays q space c nonce (Prime (Some p)) rest n is = judged_pays q space c p.items (Some nonce) rest n is
-peeked_pays q space c nonce (Prime None) rest n is = judged_pays q space c c.credentials.cnonce (Some nonce) rest n is
-peeked_pays q space c nonce Gone rest n is = judged_pays q space c c.credentials.cnonce None rest n is
-peeked_pays q space c nonce Fresh rest n is = absurd is
-peeked_pays q space c nonce (Behind high) rest n is = absurd is
-peeked_pays q space c nonce Repeated rest n is = absurd is
-peeked_pays q space c nonce OtherSession rest n is = absurd is
-peeked_pays q space c nonce (Issued serial) rest n is = absurd is
-peeked_pays q space c nonce (Opened serial) rest n is = absurd is
-peeked_pays q space c nonce (Taken exchange) rest n is = absurd is
-peeked_pays q space c nonce Kept rest n is = absurd is
-peeked_pays q space c nonce (Session exchange) rest n is = absurd is
+use_calls : (c : Candidate) (prime : ArrayVec ℕ) (r : Reply) → CallsAtMost 1 (stage_after_use c prime r)
+use_calls c prime (reply.Fresh uses) = admitted_calls c prime uses
+use_calls c prime reply.Gone = record { few = omega arith; before = tt }
+use_calls c prime (reply.Behind high) = record { few = omega arith; before = tt }
+use_calls c prime reply.Repeated = record { few = omega arith; before = tt }
+use_calls c prime reply.OtherSession = record { few = omega arith; before = tt }
+use_calls c prime _ = record { few = omega arith; before = tt }
 
-peek_pays : (q : Question) (space : Space) (c : Candidate) (nonce : TableName) (answers : List Answer) → Pays 3 answers (called nonce.shard (peek q space nonce) answers (peeked q space c nonce))
-peek_pays q space c nonce [] is answer = first_pays 1 answer
-peek_pays q space c nonce (Words w ∷ rest) is answer = absurd is
-peek_pays q space c nonce (Replied r ∷ rest) is answer = peeked_pays q space c nonce r rest 0 is answer
+issue_calls : (shards : ℕ) (purpose : Purpose) (words : List ℕ) (r : Reply) → calls_at (stage_after_issue shards purpose words r) ≤ 0
+issue_calls shards purpose words (reply.Issued serial) = omega arith
+issue_calls shards purpose words _ = omega arith
 
-tried_pays : (q : Question) (space : Space) (c : Candidate) (nonce : Option TableName) (answers : List Answer) → Pays 3 answers (tried q space c nonce answers)
-tried_pays q space c None answers is = judged_pays q space c c.credentials.cnonce None answers 1 is
-tried_pays q space c (Some nonce) answers is =
-    either_pays c.credentials.kind.session (called nonce.shard (peek q space nonce) answers (peeked q space c nonce))
-    (judged q space c c.credentials.cnonce (Some nonce) answers) 3 answers (peek_pays q space c nonce answers) (judged_pays q space c c.credentials.cnonce (Some nonce) answers 1) is
+-- no call comes any more
+abbrev IsOver : Stage → Type 0
+IsOver s = calls_at s ≤ 0
 
-bare_pays : (q : Question) (space : Space) (m : Mode) (answers : List Answer) → Pays 3 answers (bare q space m answers)
-bare_pays q space mode.Required answers is = challenge_pays q space false answers 2 is
-bare_pays q space mode.Optional answers is = nonce_pays q space answers (λ nonce. Verdict (Open (items_of q.role space nonce false))) 2 (λ nonce none. none) is
-bare_pays q space mode.Open answers is = absurd is
+over_stays : (q : Question) (s : Stage) (a : Answer) → IsOver s → IsOver (stage_after q s a)
+over_stays q stage.Open (Words w) over = over
+over_stays q stage.Open (Replied r) over = over
+over_stays q (stage.Bad why) (Words w) over = over
+over_stays q (stage.Bad why) (Replied r) over = over
+over_stays q (stage.Issued purpose nonce) (Words w) over = over
+over_stays q (stage.Issued purpose nonce) (Replied r) over = over
+over_stays q (stage.Admitted c prime) (Words w) over = over
+over_stays q (stage.Admitted c prime) (Replied r) over = over
+over_stays q stage.Mismatched (Words w) over = over
+over_stays q stage.Mismatched (Replied r) over = over
+over_stays q (stage.Drawing purpose) a over = absurd (omega (arith, over))
+over_stays q (stage.Issuing purpose words) a over = absurd (omega (arith, over))
+over_stays q (stage.Peeking c nonce) a over = absurd (omega (arith, over))
+over_stays q (stage.Using c prime nonce) a over = absurd (omega (arith, over))
 
-course_pays : (q : Question) (space : Space) (answers : List Answer) (course : Course) → Pays 3 answers (on_course q space answers course)
-course_pays q space answers Bare is = bare_pays q space space.mode answers is
-course_pays q space answers (Wrong why) is = absurd is
-course_pays q space answers Unfit is = challenge_pays q space false answers 2 is
-course_pays q space answers (Fit c) is = tried_pays q space c (within q.shards q.reading.named) answers is
+over_all : (q : Question) (answers : List Answer) (s : Stage) → IsOver s → IsOver (fold (stage_after q) s answers)
+over_all q [] s over = over
+over_all q (a ∷ answers) s over = over_all q answers (stage_after q s a) (over_stays q s a over)
 
-space_pays : (q : Question) (space : Space) (m : Mode) (answers : List Answer) → Pays 3 answers (in_space q space m answers)
-space_pays q space mode.Open answers is = absurd is
-space_pays q space mode.Optional answers is = course_pays q space answers (course_of q.request.target space q.site.store q.reading.field) is
-space_pays q space mode.Required answers is = course_pays q space answers (course_of q.request.target space q.site.store q.reading.field) is
+no_call : (q : Question) (o : Option Space) (s : Stage) → IsOver s → IsCall (ask_in q o s) → ⊥
+no_call q None s over call = call
+no_call q (Some space) (stage.Drawing purpose) over call = call
+no_call q (Some space) (stage.Issuing purpose words) over call = omega (arith, over)
+no_call q (Some space) (stage.Peeking c nonce) over call = omega (arith, over)
+no_call q (Some space) (stage.Using c prime nonce) over call = omega (arith, over)
+no_call q (Some space) (stage.Issued purpose nonce) over call = call
+no_call q (Some space) stage.Open over call = call
+no_call q (Some space) (stage.Bad why) over call = call
+no_call q (Some space) (stage.Admitted c prime) over call = call
+no_call q (Some space) stage.Mismatched over call = call
 
-place_pays : (q : Question) (space : Option Space) (answers : List Answer) → Pays 3 answers (in_place q space answers)
-place_pays q None answers is = absurd is
-place_pays q (Some space) answers is = space_pays q space space.mode answers is
+-- a reply leads on to a stage with fewer calls
+reply_calls : (q : Question) (s : Stage) (r : Reply) (n : ℕ) → CallsAtMost (suc n) s → CallsAtMost n (stage_after q s (Replied r))
+reply_calls q (stage.Issuing purpose words) r n a = absurd a.before
+reply_calls q (stage.Drawing purpose) r n a = record { few = omega arith; before = tt }
+reply_calls q (stage.Peeking c nonce) r n a = (let few = a.few in more 2 n (stage_after_peek q.request c nonce r) (omega (arith, few)) (peek_calls q.request c nonce r))
+reply_calls q (stage.Using c prime nonce) r n a = (let few = a.few in more 1 n (stage_after_use c prime r) (omega (arith, few)) (use_calls c prime r))
+reply_calls q _ r n a = record { few = omega arith; before = tt }
+
+-- behind words there is the call for the nonce, and no other
+words_over : (q : Question) (s : Stage) (w : List ℕ) (a : Answer) → IsBeforeWords s → IsOver (stage_after q (stage_after q s (Words w)) a)
+words_over q (stage.Issuing purpose drawn) w a before = absurd before
+words_over q (stage.Drawing purpose) w (Words v) before = omega arith
+words_over q (stage.Drawing purpose) w (Replied r) before = issue_calls q.shards purpose w r
+words_over q (stage.Peeking c nonce) w a before = over_stays q stage.Mismatched a (omega arith)
+words_over q (stage.Using c prime nonce) w a before = over_stays q stage.Mismatched a (omega arith)
+words_over q stage.Open w a before = over_stays q stage.Open a (omega arith)
+words_over q (stage.Bad why) w a before = over_stays q (stage.Bad why) a (omega arith)
+words_over q (stage.Issued purpose nonce) w a before = over_stays q (stage.Issued purpose nonce) a (omega arith)
+words_over q (stage.Admitted c prime) w a before = over_stays q (stage.Admitted c prime) a (omega arith)
+words_over q stage.Mismatched w a before = over_stays q stage.Mismatched a (omega arith)
+
+-- the first call is at a look-up or a use, or behind words
+first_pays : (q : Question) (o : Option Space) (s : Stage) (n : ℕ) → CallsAtMost n s → IsCall (ask_in q o s) → 2 ≤ n
+first_pays q None s n a call = absurd call
+first_pays q (Some space) (stage.Issuing purpose words) n a call = absurd a.before
+first_pays q (Some space) (stage.Peeking c nonce) n a call = (let few = a.few in omega (arith, few))
+first_pays q (Some space) (stage.Using c prime nonce) n a call = (let few = a.few in omega (arith, few))
+first_pays q (Some space) (stage.Drawing purpose) n a call = absurd call
+first_pays q (Some space) (stage.Issued purpose nonce) n a call = absurd call
+first_pays q (Some space) stage.Open n a call = absurd call
+first_pays q (Some space) (stage.Bad why) n a call = absurd call
+first_pays q (Some space) (stage.Admitted c prime) n a call = absurd call
+first_pays q (Some space) stage.Mismatched n a call = absurd call
+
+words_pay : (q : Question) (o : Option Space) (s : Stage) (w : List ℕ) (n : ℕ) → CallsAtMost n s → IsCall (ask_in q o (stage_after q s (Words w))) → 1 ≤ n
+words_pay q o s w zero a call = absurd (no_call q o (stage_after q s (Words w)) (over_stays q s (Words w) a.few) call)
+words_pay q o s w (suc n) a call = omega arith
+
+one_pays : (n : ℕ) (a : Answer) → 2 ≤ n → suc (calls_left (a ∷ []) n) ≤ n
+one_pays zero a some = absurd (omega (arith, some))
+one_pays (suc zero) a some = absurd (omega (arith, some))
+one_pays (suc (suc n)) (Words w) some = omega arith
+one_pays (suc (suc n)) (Replied r) some = omega arith
+
+stage_pays : (q : Question) (o : Option Space) (answers : List Answer) (s : Stage) (n : ℕ) → CallsAtMost n s → IsCall (ask_in q o (fold (stage_after q) s answers))
+    → (a : Answer) → suc (calls_left (answers ++ a ∷ []) n) ≤ calls_left answers n
+stage_pays q o [] s n at_most call a = one_pays n a (first_pays q o s n at_most call)
+stage_pays q o (Words w ∷ []) s n at_most call a = (let some = words_pay q o s w n at_most call in omega (arith, some))
+stage_pays q o (Words w ∷ b ∷ rest) s n at_most call a =
+    let behind = stage_after q (stage_after q s (Words w)) b in
+    absurd (no_call q o (fold (stage_after q) behind rest) (over_all q rest behind (words_over q s w b at_most.before)) call)
+stage_pays q o (Replied r ∷ rest) s zero at_most call a =
+    let behind = stage_after q s (Replied r) in
+    absurd (no_call q o (fold (stage_after q) behind rest) (over_all q rest behind (over_stays q s (Replied r) at_most.few)) call)
+stage_pays q o (Replied r ∷ rest) s (suc n) at_most call a = stage_pays q o rest (stage_after q s (Replied r)) n (reply_calls q s r n at_most) call a
+
+-- ---- the first stage
+
+candidate_calls : (request : Request) (c : Candidate) (o : Option TableName) → CallsAtMost 3 (candidate_stage request c o)
+candidate_calls request c None = more 2 3 (candidate_stage request c None) (omega arith) (response_calls request c c.credentials.cnonce None)
+candidate_calls request c (Some nonce) = by c.credentials.kind.session
+  where
+    by : (session : Bool) → CallsAtMost 3 (if session then stage.Peeking c nonce else response_stage request c c.credentials.cnonce (Some nonce))
+    by true = record { few = omega arith; before = tt }
+    by false = more 2 3 (response_stage request c c.credentials.cnonce (Some nonce)) (omega arith) (response_calls request c c.credentials.cnonce (Some nonce))
+
+taken_calls : (request : Request) (nonce : Option TableName) (o : Option Candidate) → CallsAtMost 3 (taken_stage request nonce o)
+taken_calls request name None = record { few = omega arith; before = tt }
+taken_calls request name (Some c) = candidate_calls request c name
+
+digest_calls : (request : Request) (nonce : Option TableName) (space : Space) (store : List Entry) (c : Credentials) → CallsAtMost 3 (digest_stage request nonce space store c)
+digest_calls request name space store c = by (correspond c.uri request.target)
+  where
+    by : (same : Bool) → CallsAtMost 3 (if same then taken_stage request name (candidate_of space store c) else stage.Bad why.Uri)
+    by true = taken_calls request name (candidate_of space store c)
+    by false = record { few = omega arith; before = tt }
+
+mode_calls : (m : Mode) → CallsAtMost 3 (mode_stage m)
+mode_calls mode.Open = record { few = omega arith; before = tt }
+mode_calls mode.Optional = record { few = omega arith; before = tt }
+mode_calls mode.Required = record { few = omega arith; before = tt }
+
+presented_calls : (request : Request) (nonce : Option TableName) (space : Space) (store : List Entry) (p : Presented) → CallsAtMost 3 (presented_stage request nonce space store p)
+presented_calls request name space store presents.Nothing = mode_calls space.mode
+presented_calls request name space store (presents.Malformed why) = record { few = omega arith; before = tt }
+presented_calls request name space store presents.OtherScheme = record { few = omega arith; before = tt }
+presented_calls request name space store (presents.Digest c) = digest_calls request name space store c
+
+first_calls : (q : Question) (o : Option Space) → CallsAtMost 3 (first_stage_in q o)
+first_calls q None = record { few = omega arith; before = tt }
+first_calls q (Some space) = presented_calls q.request (name_within q.shards q.credentials.nonce) space q.site.store (presented q.credentials.field)
 
 -- a request makes at most three calls
 pub asked_pays : (q : Question) (answers : List Answer) → Pays 3 answers (asked q answers)
-unfolding asked
-asked_pays q answers = place_pays q (place_of q.role q.request q.site) answers
+unfolding asked first_stage
+asked_pays q answers call =
+    let o = protection_space q.role q.request q.site in
+    stage_pays q o answers (first_stage_in q o) 3 (first_calls q o) call

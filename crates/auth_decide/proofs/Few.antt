@@ -1,144 +1,162 @@
--- A decision asks few things.
-use Rattle.std.proofs.Common.{ℕ, ◌≤◌, Bool, true, false, List, [], ◌∷◌, length, Option, Some, None, arith}
+-- A decision asks few things: each answer leads on to a stage that leaves fewer to ask.
+use Rattle.std.proofs.Common.{ℕ, ◌≤◌, ◌<◌, ◌-◌, Bool, true, false, nat_lt, List, [], ◌∷◌, length, fold, Option, Some, None, arith}
 use Rattle.std.specs.Prelude.{if◌then◌else◌}
+use Rattle.arrayvec.specs.ArrayVec.{ArrayVec}
+use Rattle.cred_store.specs.declared.entry.Entry.{Entry}
+use Rattle.digest_fields.specs.Credentials.{Credentials}
+use Rattle.http_wire.specs.declared.request.Request.{Request}
 use Rattle.nonce_shard.specs.declared.calls.Reply.{Reply}
-use Rattle.nonce_shard.specs.declared.calls.Reply.TheVariants.{Issued, Prime, Fresh, Gone, Behind, Repeated, OtherSession, Opened, Taken, Kept, Session}
+use Rattle.nonce_shard.specs.declared.calls.Reply.TheVariants as reply
 use Rattle.nonce_shard.specs.declared.names.TableName.{TableName}
 use Rattle.spaces_map.specs.declared.space.Mode.{Mode}
 use Rattle.spaces_map.specs.declared.space.Mode.TheVariants as mode
 use Rattle.spaces_map.specs.declared.space.Space.{Space}
-use Rattle.auth_decide.specs.Asks.{Question, issued, called, peek, with_nonce, challenge, used, use_nonce, judged, peeked, within, tried, bare, on_course, in_space, in_place, asked, place_of, is_right, nonce_text, shard_for}
-use Rattle.auth_decide.specs.Courses.{course_of}
-use Rattle.auth_decide.specs.Challenges.{items_of}
-use Rattle.auth_decide.specs.declared.verdict.Verdict.TheVariants.{Open, Challenge}
-use Rattle.auth_decide.specs.Decisions.{IsOutside, IsDraw, IsCallFor}
-use Rattle.auth_decide.specs.declared.verdict.Answer.{Answer}
-use Rattle.auth_decide.specs.declared.verdict.Answer.TheVariants.{Words, Replied}
+use Rattle.auth_decide.specs.Asks.{ask_in, asked, next_ask}
+use Rattle.auth_decide.specs.Candidates.{candidate_of}
+use Rattle.auth_decide.specs.Credentials.{presented}
+use Rattle.auth_decide.specs.Decisions.{IsCallFor, IsDraw, IsOutside, asks_left}
+use Rattle.auth_decide.specs.Paths.{correspond}
+use Rattle.auth_decide.specs.Responses.{is_right}
+use Rattle.auth_decide.specs.Stages.{Answer, Question, Replied, Words, admitted_stage, candidate_stage, challenge_stage, digest_stage, first_stage, first_stage_in, mode_stage, name_within, presented_stage, protection_space, response_stage, right_stage, stage_after, stage_after_issue, stage_after_peek, stage_after_use, stage_at, taken_stage}
+use Rattle.auth_decide.specs.declared.candidate.Candidate.{Candidate}
+use Rattle.auth_decide.specs.declared.credentials.Presented.{Presented}
+use Rattle.auth_decide.specs.declared.credentials.Presented.TheVariants as presents
+use Rattle.auth_decide.specs.declared.stages.Purpose.{Purpose}
+use Rattle.auth_decide.specs.declared.stages.Purpose.TheVariants.{Next}
+use Rattle.auth_decide.specs.declared.stages.Stage.{Stage}
+use Rattle.auth_decide.specs.declared.stages.Stage.TheVariants as stage
+use Rattle.auth_decide.specs.declared.stages.TheConstants.{NEXT_NONCE_USES}
 use Rattle.auth_decide.specs.declared.verdict.Ask.{Ask}
 use Rattle.auth_decide.specs.declared.verdict.Ask.TheVariants.{Draw, Table, Verdict}
-use Rattle.auth_decide.specs.declared.verdict.Candidate.{Candidate}
-use Rattle.auth_decide.specs.declared.verdict.Course.{Course}
-use Rattle.auth_decide.specs.declared.verdict.Course.TheVariants.{Bare, Wrong, Unfit, Fit}
+use Rattle.auth_decide.specs.declared.verdict.Why.TheVariants as why
 
-no_issue : (r : Reply) (next : ℕ → Ask) → ((serial : ℕ) → IsOutside (next serial) → ⊥) → IsOutside (issued r next) → ⊥
-no_issue (Issued serial) next none out = none serial out
-no_issue (Prime p) next none out = out
-no_issue Fresh next none out = out
-no_issue Gone next none out = out
-no_issue (Behind high) next none out = out
-no_issue Repeated next none out = out
-no_issue OtherSession next none out = out
-no_issue (Opened serial) next none out = out
-no_issue (Taken exchange) next none out = out
-no_issue Kept next none out = out
-no_issue (Session exchange) next none out = out
+-- ---- an answer leaves fewer
 
-few_nonce : (q : Question) (space : Space) (answers : List Answer) (next : List ℕ → Ask) → ((nonce : List ℕ) → IsOutside (next nonce) → ⊥) →
-    IsOutside (with_nonce q space answers next) → length answers ≤ 1
-few_nonce q space [] next none out = omega arith
-few_nonce q space (Replied r ∷ rest) next none out = absurd out
-few_nonce q space (Words w ∷ []) next none out = omega arith
-few_nonce q space (Words w ∷ Words v ∷ rest) next none out = absurd out
-few_nonce q space (Words w ∷ Replied r ∷ rest) next none out =
-    absurd (no_issue r (λ serial. next (nonce_text (shard_for q w) w serial)) (λ serial. none (nonce_text (shard_for q w) w serial)) out)
+response_left : (request : Request) (c : Candidate) (prime : List ℕ) (nonce : Option TableName) → asks_left (response_stage request c prime nonce) ≤ 3
+response_left request c prime nonce = by (is_right request c prime) nonce
+  where
+    by : (right : Bool) (o : Option TableName) → asks_left (if right then right_stage c prime o else challenge_stage false) ≤ 3
+    by true None = omega arith
+    by true (Some name) = omega arith
+    by false o = omega arith
 
-few_challenge : (q : Question) (space : Space) (stale : Bool) (answers : List Answer) → IsOutside (challenge q space stale answers) → length answers ≤ 1
-few_challenge q space stale answers out = few_nonce q space answers (λ nonce. Verdict (Challenge (items_of q.role space nonce stale))) (λ nonce none. none) out
+peek_left : (request : Request) (c : Candidate) (nonce : TableName) (r : Reply) → asks_left (stage_after_peek request c nonce r) ≤ 3
+peek_left request c nonce (reply.Prime (Some prime)) = response_left request c prime.items (Some nonce)
+peek_left request c nonce (reply.Prime None) = response_left request c c.credentials.cnonce (Some nonce)
+peek_left request c nonce reply.Gone = response_left request c c.credentials.cnonce None
+peek_left request c nonce _ = omega arith
 
-few_used : (q : Question) (space : Space) (c : Candidate) (prime : List ℕ) (r : Reply) (rest : List Answer) → IsOutside (used q space c prime r rest) → length rest ≤ 1
-few_used q space c prime Fresh rest out = absurd out
-few_used q space c prime Gone rest out = few_challenge q space true rest out
-few_used q space c prime (Behind high) rest out = few_challenge q space true rest out
-few_used q space c prime Repeated rest out = few_challenge q space true rest out
-few_used q space c prime OtherSession rest out = few_challenge q space false rest out
-few_used q space c prime (Issued serial) rest out = absurd out
-few_used q space c prime (Prime p) rest out = absurd out
-few_used q space c prime (Opened serial) rest out = absurd out
-few_used q space c prime (Taken exchange) rest out = absurd out
-few_used q space c prime Kept rest out = absurd out
-few_used q space c prime (Session exchange) rest out = absurd out
+admitted_left : (c : Candidate) (prime : ArrayVec ℕ) (uses : ℕ) → asks_left (admitted_stage c prime uses) ≤ 2
+admitted_left c prime uses = by (nat_lt uses NEXT_NONCE_USES)
+  where
+    by : (few : Bool) → asks_left (if few then stage.Admitted c prime else stage.Drawing (Next c prime)) ≤ 2
+    by true = omega arith
+    by false = omega arith
 
-few_use : (q : Question) (space : Space) (c : Candidate) (prime : List ℕ) (nonce : Option TableName) (answers : List Answer) →
-    IsOutside (use_nonce q space c prime nonce answers) → length answers ≤ 2
-few_use q space c prime None answers out = let few = few_challenge q space true answers out in omega (arith, few)
-few_use q space c prime (Some nonce) [] out = omega arith
-few_use q space c prime (Some nonce) (Words w ∷ rest) out = absurd out
-few_use q space c prime (Some nonce) (Replied r ∷ rest) out = let few = few_used q space c prime r rest out in omega (arith, few)
+use_left : (c : Candidate) (prime : ArrayVec ℕ) (r : Reply) → asks_left (stage_after_use c prime r) ≤ 2
+use_left c prime (reply.Fresh uses) = admitted_left c prime uses
+use_left c prime reply.Gone = omega arith
+use_left c prime (reply.Behind high) = omega arith
+use_left c prime reply.Repeated = omega arith
+use_left c prime reply.OtherSession = omega arith
+use_left c prime _ = omega arith
 
-either_few : (b : Bool) (x y : Ask) (n m : ℕ) → (IsOutside x → n ≤ m) → (IsOutside y → n ≤ m) → IsOutside (if b then x else y) → n ≤ m
-either_few true x y n m p q out = p out
-either_few false x y n m p q out = q out
+issue_left : (shards : ℕ) (purpose : Purpose) (words : List ℕ) (r : Reply) → asks_left (stage_after_issue shards purpose words r) ≤ 0
+issue_left shards purpose words (reply.Issued serial) = omega arith
+issue_left shards purpose words _ = omega arith
 
-few_judged : (q : Question) (space : Space) (c : Candidate) (prime : List ℕ) (nonce : Option TableName) (answers : List Answer) →
-    IsOutside (judged q space c prime nonce answers) → length answers ≤ 2
-few_judged q space c prime nonce answers out =
-    either_few (is_right q.request c prime) (use_nonce q space c prime nonce answers) (challenge q space false answers) (length answers) 2 (few_use q space c prime nonce answers)
-    (λ here. let few = few_challenge q space false answers here in omega (arith, few)) out
+after_left : (q : Question) (s : Stage) (a : Answer) → asks_left (stage_after q s a) ≤ asks_left s - 1
+after_left q (stage.Drawing purpose) (Words words) = omega arith
+after_left q _ (Words words) = omega arith
+after_left q (stage.Issuing purpose words) (Replied r) = (let few = issue_left q.shards purpose words r in omega (arith, few))
+after_left q (stage.Peeking c nonce) (Replied r) = (let few = peek_left q.request c nonce r in omega (arith, few))
+after_left q (stage.Using c prime nonce) (Replied r) = (let few = use_left c prime r in omega (arith, few))
+after_left q _ (Replied r) = omega arith
 
-few_peeked : (q : Question) (space : Space) (c : Candidate) (nonce : TableName) (r : Reply) (rest : List Answer) → IsOutside (peeked q space c nonce r rest) → length rest ≤ 2
-few_peeked q space c nonce (Prime (Some p)) rest out = few_judged q space c p.items (Some nonce) rest out
-few_peeked q space c nonce (Prime None) rest out = few_judged q space c c.credentials.cnonce (Some nonce) rest out
-few_peeked q space c nonce Gone rest out = few_judged q space c c.credentials.cnonce None rest out
-few_peeked q space c nonce Fresh rest out = absurd out
-few_peeked q space c nonce (Behind high) rest out = absurd out
-few_peeked q space c nonce Repeated rest out = absurd out
-few_peeked q space c nonce OtherSession rest out = absurd out
-few_peeked q space c nonce (Issued serial) rest out = absurd out
-few_peeked q space c nonce (Opened serial) rest out = absurd out
-few_peeked q space c nonce (Taken exchange) rest out = absurd out
-few_peeked q space c nonce Kept rest out = absurd out
-few_peeked q space c nonce (Session exchange) rest out = absurd out
+outside_left : (q : Question) (o : Option Space) (s : Stage) → IsOutside (ask_in q o s) → 1 ≤ asks_left s
+outside_left q None s out = absurd out
+outside_left q (Some space) (stage.Peeking c nonce) out = omega arith
+outside_left q (Some space) (stage.Using c prime nonce) out = omega arith
+outside_left q (Some space) (stage.Drawing purpose) out = omega arith
+outside_left q (Some space) (stage.Issuing purpose words) out = omega arith
+outside_left q (Some space) (stage.Issued purpose nonce) out = absurd out
+outside_left q (Some space) stage.Open out = absurd out
+outside_left q (Some space) (stage.Bad why) out = absurd out
+outside_left q (Some space) (stage.Admitted c prime) out = absurd out
+outside_left q (Some space) stage.Mismatched out = absurd out
 
-few_peek : (q : Question) (space : Space) (c : Candidate) (nonce : TableName) (answers : List Answer) →
-    IsOutside (called nonce.shard (peek q space nonce) answers (peeked q space c nonce)) → length answers ≤ 3
-few_peek q space c nonce [] out = omega arith
-few_peek q space c nonce (Words w ∷ rest) out = absurd out
-few_peek q space c nonce (Replied r ∷ rest) out = let few = few_peeked q space c nonce r rest out in omega (arith, few)
-
-few_tried : (q : Question) (space : Space) (c : Candidate) (nonce : Option TableName) (answers : List Answer) → IsOutside (tried q space c nonce answers) → length answers ≤ 3
-few_tried q space c None answers out = let few = few_judged q space c c.credentials.cnonce None answers out in omega (arith, few)
-few_tried q space c (Some nonce) answers out =
-    either_few c.credentials.kind.session (called nonce.shard (peek q space nonce) answers (peeked q space c nonce))
-    (judged q space c c.credentials.cnonce (Some nonce) answers) (length answers) 3 (few_peek q space c nonce answers)
-    (λ here. let few = few_judged q space c c.credentials.cnonce (Some nonce) answers here in omega (arith, few)) out
-
-few_bare : (q : Question) (space : Space) (m : Mode) (answers : List Answer) → IsOutside (bare q space m answers) → length answers ≤ 1
-few_bare q space mode.Required answers out = few_challenge q space false answers out
-few_bare q space mode.Optional answers out = few_nonce q space answers (λ nonce. Verdict (Open (items_of q.role space nonce false))) (λ nonce none. none) out
-few_bare q space mode.Open answers out = absurd out
-
-few_course : (q : Question) (space : Space) (answers : List Answer) (course : Course) → IsOutside (on_course q space answers course) → length answers ≤ 3
-few_course q space answers Bare out = let few = few_bare q space space.mode answers out in omega (arith, few)
-few_course q space answers (Wrong why) out = absurd out
-few_course q space answers Unfit out = let few = few_challenge q space false answers out in omega (arith, few)
-few_course q space answers (Fit c) out = few_tried q space c (within q.shards q.reading.named) answers out
-
-few_space : (q : Question) (space : Space) (m : Mode) (answers : List Answer) → IsOutside (in_space q space m answers) → length answers ≤ 3
-few_space q space mode.Open answers out = absurd out
-few_space q space mode.Optional answers out = few_course q space answers (course_of q.request.target space q.site.store q.reading.field) out
-few_space q space mode.Required answers out = few_course q space answers (course_of q.request.target space q.site.store q.reading.field) out
-
-few_place : (q : Question) (space : Option Space) (answers : List Answer) → IsOutside (in_place q space answers) → length answers ≤ 3
-few_place q None answers out = absurd out
-few_place q (Some space) answers out = few_space q space space.mode answers out
-
--- there are at most four asks
-pub few_asks : (q : Question) (answers : List Answer) → IsOutside (asked q answers) → length answers ≤ 3
-unfolding asked
-few_asks q answers out = few_place q (place_of q.role q.request q.site) answers out
+fewer : (q : Question) (s : Stage) (a : Answer) → IsOutside (next_ask q s) → asks_left (stage_after q s a) < asks_left s
+fewer q s a out =
+    let some = outside_left q (protection_space q.role q.request q.site) s out in
+    let one = after_left q s a in
+    omega (arith, some, one)
 
 draw_outside : (ask : Ask) → IsDraw ask → IsOutside ask
-draw_outside Draw d = tt
-draw_outside (Table shard call) d = absurd d
-draw_outside (Verdict verdict) d = absurd d
+draw_outside Draw is = tt
+draw_outside (Table shard call) is = absurd is
+draw_outside (Verdict verdict) is = absurd is
 
-call_outside : (reply : Reply) (ask : Ask) → IsCallFor reply ask → IsOutside ask
-call_outside reply Draw d = absurd d
-call_outside reply (Table shard call) d = tt
-call_outside reply (Verdict verdict) d = absurd d
+call_outside : (r : Reply) (ask : Ask) → IsCallFor r ask → IsOutside ask
+call_outside r Draw is = absurd is
+call_outside r (Table shard call) is = tt
+call_outside r (Verdict verdict) is = absurd is
 
-pub few_draws : (q : Question) (answers : List Answer) → IsDraw (asked q answers) → length answers ≤ 3
-few_draws q answers d = few_asks q answers (draw_outside (asked q answers) d)
+pub words_fewer : (q : Question) (s : Stage) (words : List ℕ) → IsDraw (next_ask q s) → asks_left (stage_after q s (Words words)) < asks_left s
+words_fewer q s words is = fewer q s (Words words) (draw_outside (next_ask q s) is)
 
-pub few_calls : (q : Question) (answers : List Answer) (reply : Reply) → IsCallFor reply (asked q answers) → length answers ≤ 3
-few_calls q answers reply d = few_asks q answers (call_outside reply (asked q answers) d)
+pub reply_fewer : (q : Question) (s : Stage) (r : Reply) → IsCallFor r (next_ask q s) → asks_left (stage_after q s (Replied r)) < asks_left s
+reply_fewer q s r is = fewer q s (Replied r) (call_outside r (next_ask q s) is)
+
+-- ---- the first stage leaves four
+
+candidate_left : (request : Request) (c : Candidate) (o : Option TableName) → asks_left (candidate_stage request c o) ≤ 4
+candidate_left request c None = (let few = response_left request c c.credentials.cnonce None in omega (arith, few))
+candidate_left request c (Some nonce) = by c.credentials.kind.session
+  where
+    by : (session : Bool) → asks_left (if session then stage.Peeking c nonce else response_stage request c c.credentials.cnonce (Some nonce)) ≤ 4
+    by true = omega arith
+    by false = (let few = response_left request c c.credentials.cnonce (Some nonce) in omega (arith, few))
+
+taken_left : (request : Request) (nonce : Option TableName) (o : Option Candidate) → asks_left (taken_stage request nonce o) ≤ 4
+taken_left request name None = omega arith
+taken_left request name (Some c) = candidate_left request c name
+
+digest_left : (request : Request) (nonce : Option TableName) (space : Space) (store : List Entry) (c : Credentials) → asks_left (digest_stage request nonce space store c) ≤ 4
+digest_left request name space store c = by (correspond c.uri request.target)
+  where
+    by : (same : Bool) → asks_left (if same then taken_stage request name (candidate_of space store c) else stage.Bad why.Uri) ≤ 4
+    by true = taken_left request name (candidate_of space store c)
+    by false = omega arith
+
+mode_left : (m : Mode) → asks_left (mode_stage m) ≤ 4
+mode_left mode.Open = omega arith
+mode_left mode.Optional = omega arith
+mode_left mode.Required = omega arith
+
+presented_left : (request : Request) (nonce : Option TableName) (space : Space) (store : List Entry) (p : Presented) → asks_left (presented_stage request nonce space store p) ≤ 4
+presented_left request name space store presents.Nothing = mode_left space.mode
+presented_left request name space store (presents.Malformed why) = omega arith
+presented_left request name space store presents.OtherScheme = omega arith
+presented_left request name space store (presents.Digest c) = digest_left request name space store c
+
+first_left_in : (q : Question) (o : Option Space) → asks_left (first_stage_in q o) ≤ 4
+first_left_in q None = omega arith
+first_left_in q (Some space) = presented_left q.request (name_within q.shards q.credentials.nonce) space q.site.store (presented q.credentials.field)
+
+pub first_left : (q : Question) → asks_left (first_stage q) ≤ 4
+unfolding first_stage
+first_left q = first_left_in q (protection_space q.role q.request q.site)
+
+-- ---- there are at most four asks
+
+all_left : (q : Question) (answers : List Answer) (s : Stage) → asks_left (fold (stage_after q) s answers) ≤ asks_left s - length answers
+all_left q [] s = omega arith
+all_left q (a ∷ answers) s = (let rest = all_left q answers (stage_after q s a) in let one = after_left q s a in omega (arith, rest, one))
+
+pub few_asks : (q : Question) (answers : List Answer) → IsOutside (asked q answers) → length answers ≤ 3
+unfolding asked
+few_asks q answers out =
+    let first = first_left q in
+    let rest = all_left q answers (first_stage q) in
+    let some = outside_left q (protection_space q.role q.request q.site) (stage_at q answers) out in
+    omega (arith, first, rest, some)

@@ -1,3 +1,6 @@
 pub mod Realms
+pub mod Folds
 pub mod Few
+pub mod Within
 pub mod Calls
+pub mod OneLine

@@ -1,24 +1,21 @@
 -- What a decision is seen as.
-use Rattle.std.specs.Prelude.{ℕ, ◌<◌, ◌≤◌, List, length, Option, Some, None}
+use Rattle.std.specs.Prelude.{ℕ, ◌<◌, ◌≤◌, List, length, ⊤}
 use Rattle.nonce_shard.specs.Replies.{CanAnswer, Fits}
 use Rattle.nonce_shard.specs.declared.calls.Reply.{Reply}
-use Rattle.auth_decide.specs.Asks.{Question, asked, place_of}
-use Rattle.auth_decide.specs.Courses.{course_of}
-use Rattle.auth_decide.specs.declared.site.Site.{Site}
-use Rattle.auth_decide.specs.declared.verdict.Answer.{Answer}
+use Rattle.auth_decide.specs.Asks.{asked, next_ask}
+use Rattle.auth_decide.specs.Stages.{Answer, Question}
+use Rattle.auth_decide.specs.declared.stages.Stage.{Stage}
+use Rattle.auth_decide.specs.declared.stages.Stage.TheVariants.{Drawing, Issuing, Peeking, Using}
 use Rattle.auth_decide.specs.declared.verdict.Ask.{Ask}
 use Rattle.auth_decide.specs.declared.verdict.Ask.TheVariants.{Draw, Table, Verdict}
-use Rattle.auth_decide.specs.declared.verdict.Course.{Course}
-use Rattle.auth_decide.specs.declared.verdict.Course.TheVariants.{Bare}
-use Rattle.auth_decide.specs.declared.verdict.Reading.{Reading}
-use Rattle.auth_grammar.specs.declared.items.Role.{Role}
-use Rattle.http_wire.specs.declared.request.Request.{Request}
-use Rattle.spaces_map.specs.declared.space.Space.{Space}
 
--- a request that is decided, and the answers so far
+-- a request that is decided, and the stage that it has come to
 pub record Deciding : Type 0 where
   pub question : Question
-  pub answers : List Answer
+  pub stage : Stage
+
+abbrev pub ask_of : Deciding → Ask
+ask_of d = next_ask d.question d.stage
 
 abbrev pub IsDraw : Ask → Type 0
 IsDraw Draw = Unit {0}
@@ -43,14 +40,32 @@ FitsTable shards Draw = Unit {0}
 FitsTable shards (Table shard call) = (shard < shards) × Fits call.what
 FitsTable shards (Verdict verdict) = Unit {0}
 
+-- a stage that asks for random words
+abbrev pub Draws : Stage → Type 0
+Draws (Drawing purpose) = Unit {0}
+Draws _ = ⊥
+
+-- a stage that asks for a call
+abbrev pub Calls : Stage → Type 0
+Calls (Issuing purpose words) = Unit {0}
+Calls (Peeking c nonce) = Unit {0}
+Calls (Using c prime nonce) = Unit {0}
+Calls _ = ⊥
+
+-- a stage that asks one of so many shards
+abbrev pub AsksWithin : ℕ → Stage → Type 0
+AsksWithin shards (Peeking c nonce) = nonce.shard < shards
+AsksWithin shards (Using c prime nonce) = nonce.shard < shards
+AsksWithin shards _ = ⊤
+
+-- how many asks may come at most, from a stage on
+abbrev pub asks_left : Stage → ℕ
+asks_left (Peeking c nonce) = 4
+asks_left (Using c prime nonce) = 3
+asks_left (Drawing purpose) = 2
+asks_left (Issuing purpose words) = 1
+asks_left _ = 0
+
 -- An ask to the outside comes after three answers at most.
 abbrev pub AsksFew : Type 0
 AsksFew = (q : Question) (answers : List Answer) → IsOutside (asked q answers) → length answers ≤ 3
-
--- the course in the space of the request, where there is one
-abbrev pub course_in : Option Space → Request → Site → Reading → Course
-course_in None request site reading = Bare
-course_in (Some space) request site reading = course_of request.target space site.store reading.field
-
-abbrev pub course_for : Role → Request → Site → Reading → Course
-course_for role request site reading = course_in (place_of role request site) request site reading

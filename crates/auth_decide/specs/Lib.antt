@@ -1,8 +1,9 @@
 pub mod Paths
-pub mod Readings
-pub mod Courses
+pub mod Credentials
+pub mod Candidates
+pub mod Responses
 pub mod Challenges
 pub mod Infos
+pub mod Stages
 pub mod Asks
 pub mod Decisions
-pub mod Asking

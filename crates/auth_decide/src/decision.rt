@@ -1,28 +1,39 @@
 //! The decision for one request.
-ghost use Rattle.std.specs.Prelude.{◌≡◌, ◌<◌, ◌≤◌, ◌∷◌, ◌++◌, [], IfOk, IfSome, length, true, option_copied};
-ghost use Rattle.spaces_map.specs.Lines.{IsTerms};
-ghost use Rattle.auth_decide.specs.Asks.{asked, place_of};
-ghost use Rattle.auth_decide.specs.Readings.{Reads, credentials_lines};
+ghost use Rattle.std.specs.Prelude.{◌≡◌, ◌<◌, ◌≤◌, IfOk, IfSome, true, option_copied};
+ghost use Rattle.auth_grammar.specs.Plain.{is_plain_name};
+ghost use Rattle.auth_decide.specs.Credentials.{Reads, credentials_lines};
+ghost use Rattle.auth_decide.specs.Stages.{Replied, Words, first_stage, protection_space, stage_after};
 
-use crate::asking::Asking;
-use crate::course::course_of;
+use crate::asks::{ask_at, open};
+use crate::credentials::{RequestCredentials, read_request};
 use crate::paths::path_of;
-use crate::readings::{credentials_field, reading_of};
 use crate::site::Site;
-use crate::steps::{on_course, open};
-use crate::verdict::{Answer, Ask, Course, Reading};
-use arrayvec::ArrayVec;
+use crate::stages::{Stage, first_stage, name_within, put, stage_after_reply, stage_after_words};
+use crate::verdict::Ask;
 use auth_grammar::{OutOfMemory, Role};
 use http_wire::Request;
 use nonce_shard::Reply;
 use spaces_map::{Mode, Space};
 use std::alloc::Global;
 use std::marker::Model;
+use std::{fmt, mem};
 
 /// The decision for one request (RFC 9110 section 11, RFC 7616). It makes no call itself: `next` says what is
-/// asked, and the caller hands in the answer.
+/// asked, and the caller hands in the answer. There are at most four asks: one draw and three calls of the table.
 ///
-/// Contracts see the request as it is decided and the answers so far.
+/// Contracts see the request as it is decided and the stage that it has come to. The credentials are read and the
+/// response is computed once. `Debug` prints the stage's name.
+///
+/// ```text
+/// let mut decision = Decision::start(alloc, Role::Origin, &request, moment, &site, seat.shards())?;
+/// loop {
+///     match decision.next(alloc)? {
+///         Ask::Draw => decision.answer_words(&random.draw()?),
+///         Ask::Table { shard, call } => decision.answer(&seat.call(shard, &call)?),
+///         Ask::Verdict(verdict) => return Ok(verdict),
+///     }
+/// }
+/// ```
 #[derive(Drop)]
 pub struct Decision<'a> {
     role: Role,
@@ -30,63 +41,69 @@ pub struct Decision<'a> {
     moment: u64,
     site: &'a Site,
     shards: u16,
-    reading: Reading,
-    course: Course,
-    answers: ArrayVec<Answer, 4>,
+    credentials: RequestCredentials,
+    space: Option<&'a Space>,
+    stage: Stage,
+}
+
+impl<'a> fmt::Debug for Decision<'a> {
+    fn fmt<W: fmt::Write>(&self, f: &mut fmt::Formatter<W>) -> fmt::Result {
+        f.debug_struct("Decision")
+            .field("stage", &self.stage)
+            .finish()
+    }
 }
 
 impl<'a> Model for Decision<'a> {
-    ghost use Rattle.std.specs.Prelude.{◌≡◌, ◌<◌};
-    ghost use Rattle.auth_decide.specs.Decisions.{Deciding, course_for};
+    ghost use Rattle.std.specs.Prelude.{◌≡◌, ◌<◌, true, option_copied};
+    ghost use Rattle.std.specs.Option.{ForSome};
+    ghost use Rattle.auth_grammar.specs.Plain.{is_plain_name};
+    ghost use Rattle.auth_decide.specs.Decisions.{AsksWithin, Deciding};
+    ghost use Rattle.auth_decide.specs.Stages.{protection_space};
 
     ghost Value = { Deciding };
 
     ghost view = { λ d. record {
-      question = record { role = d.role; request = d.request.now; moment = d.moment; site = d.site.now; shards = d.shards; reading = d.reading };
-      answers = d.answers.items;
+      question = record {
+        role = d.role;
+        request = d.request.now;
+        moment = d.moment;
+        site = d.site.now;
+        shards = d.shards;
+        credentials = d.credentials;
+      };
+      stage = d.stage;
     } };
 
-    ghost invariant = { λ d. (d.course ≡ course_for d.role d.request.now d.site.now d.reading) × (0 < d.shards) };
+    ghost invariant = { λ d. record {
+      space : option_copied d.space ≡ protection_space d.role d.request.now d.site.now;
+      realm : ForSome d.space (λ space. is_plain_name space.now.realm ≡ true);
+      some : 0 < d.shards;
+      within : AsksWithin d.shards d.stage;
+    } };
 }
 
-/// The space of a request: that of its target's path, for a proxy that of all paths.
-fn place_of<'s>(role: Role, request: &Request, site: &'s Site) -> Option<&'s Space>
-    ensures space { option_copied result ≡ place_of role request.now site.now }
-    ensures terms { IfSome result (λ space. IsTerms space.now.mode space.now.offers space.now.realm) }
+/// The space of a request, where it asks for credentials: that of its target's path, for a proxy that of all paths.
+fn protection_space<'s>(role: Role, request: &Request, site: &'s Site) -> Option<&'s Space>
+    ensures space { option_copied result ≡ protection_space role request.now site.now }
+    ensures realm { IfSome result (λ space. is_plain_name space.now.realm ≡ true) }
 {
-    match role {
+    let space = match role {
         Role::Origin => site.spaces.space_of(path_of(request.target.bytes())),
         Role::Proxy => site.spaces.space_of(b"/"),
+    }?;
+    match space.mode {
+        Mode::Open => None,
+        Mode::Optional | Mode::Required => Some(space),
     }
 }
 
-/// The course in the space of the request, where there is one.
-fn course_for(
-    alloc: Global,
-    role: Role,
-    request: &Request,
-    site: &Site,
-    reading: &Reading,
-) -> Result<Course, OutOfMemory>
-    ensures { IfOk result (λ course. course ≡ course_for role request.now site.now reading.now) }
-{
-    match place_of(role, request, site) {
-        None => Ok(Course::Bare),
-        Some(space) => course_of(
-            alloc,
-            request.target.bytes(),
-            space,
-            &site.store,
-            &reading.field,
-        ),
-    }
-}
-
-ghost use Rattle.auth_decide.specs.Decisions.{course_for, FitsTable, IsDraw, IsCallFor, AsksFew};
+ghost use Rattle.auth_decide.specs.Decisions.{AsksFew, FitsTable, IsCallFor, IsDraw, ask_of, asks_left};
 
 impl<'a> Decision<'a> {
     /// Reads what the request says of itself. `moment` is in seconds since 1970, `shards` the number of the table's
     /// shards, at least 1.
+    #[tactic(auto, unfolding(crate::specs::Stages::first_stage))]
     pub fn start(
         alloc: Global,
         role: Role,
@@ -101,66 +118,67 @@ impl<'a> Decision<'a> {
         ensures moment { IfOk result (λ d. d.question.moment ≡ moment) }
         ensures site { IfOk result (λ d. d.question.site ≡ site.now) }
         ensures shards { IfOk result (λ d. d.question.shards ≡ shards) }
-        ensures reading { IfOk result (λ d. Reads (credentials_lines role request.now) d.question.reading) }
-        ensures answers { IfOk result (λ d. d.answers ≡ []) }
+        ensures credentials { IfOk result (λ d. Reads (credentials_lines role request.now) d.question.credentials) }
+        ensures stage { IfOk result (λ d. d.stage ≡ first_stage d.question) }
+        ensures few { IfOk result (λ d. asks_left d.stage ≤ 4) }
     {
-        let lines = request.fields.lines(alloc, credentials_field(role))?;
-        let reading = reading_of(alloc, &lines)?;
-        let course = course_for(alloc, role, request, site, &reading)?;
+        let (credentials, presented) = read_request(alloc, role, request)?;
+        let nonce = name_within(shards, credentials.nonce);
+        let space = protection_space(role, request, site);
+        let stage = first_stage(request, nonce, space, &site.store, presented)?;
         Ok(Decision {
             role,
             request,
             moment,
             site,
             shards,
-            reading,
-            course,
-            answers: ArrayVec::new(),
+            credentials,
+            space,
+            stage,
         })
     }
 
-    /// What is asked next, which stays until it is answered. There are at most four asks: one draw and three calls.
-    #[tactic(auto, unfolding(crate::specs::Asks::asked))]
+    /// What is asked next, which stays until it is answered.
     pub fn next(&self, alloc: Global) -> Result<Ask, OutOfMemory>
-        ensures asked { IfOk result (λ ask. ask ≡ asked self.now.question self.now.answers) }
+        ensures asked { IfOk result (λ ask. ask ≡ ask_of self.now) }
         ensures fits { IfOk result (λ ask. FitsTable self.now.question.shards ask) }
     {
-        let Some(space) = place_of(self.role, self.request, self.site) else {
-            return Ok(open(alloc));
-        };
-        if let Mode::Open = space.mode {
-            return Ok(open(alloc));
+        match self.space {
+            None => Ok(open(alloc)),
+            Some(space) => ask_at(
+                alloc,
+                self.role,
+                self.moment,
+                self.shards,
+                space,
+                &self.stage,
+            ),
         }
-        let asking = Asking {
-            role: self.role,
-            request: self.request,
-            moment: self.moment,
-            site: self.site,
-            shards: self.shards,
-            reading: &self.reading,
-            space,
-        };
-        on_course(alloc, &asking, self.answers.as_slice(), &self.course)
     }
 
     /// Hands in the random words that were asked for.
     pub fn answer_words(&mut self, words: &[u8; 16])
-        requires { IsDraw (asked self.old.question self.old.answers) }
-        ensures { self.new ≡ record self.old { answers = self.old.answers ++ Answer.Words words.now ∷ [] } }
+        requires { IsDraw (ask_of self.old) }
+        ensures stage { self.new ≡ record self.old { stage = stage_after self.old.question self.old.stage (Words words.now) } }
+        ensures fewer { asks_left self.new.stage < asks_left self.old.stage }
     {
-        self.answers.push(Answer::Words(*words));
+        let stage = mem::replace(&mut self.stage, Stage::Mismatched);
+        put(&mut self.stage, stage_after_words(stage, *words));
     }
 
     /// Hands in the reply to the call that was asked for.
-    pub fn answer(&mut self, reply: Reply)
-        requires { IsCallFor reply (asked self.old.question self.old.answers) }
-        ensures { self.new ≡ record self.old { answers = self.old.answers ++ Answer.Replied reply ∷ [] } }
+    pub fn answer(&mut self, reply: &Reply)
+        requires { IsCallFor reply.now (ask_of self.old) }
+        ensures stage { self.new ≡ record self.old { stage = stage_after self.old.question self.old.stage (Replied reply.now) } }
+        ensures fewer { asks_left self.new.stage < asks_left self.old.stage }
     {
-        self.answers.push(Answer::Replied(reply));
+        let stage = mem::replace(&mut self.stage, Stage::Mismatched);
+        let next = stage_after_reply(self.request, self.shards, stage, reply);
+        put(&mut self.stage, next);
     }
 }
 
-/// A request asks at most four times: one draw and three calls of the table.
+/// A request asks at most four times, whatever is answered.
 pub fn asks_few()
     ensures { AsksFew }
 {}

@@ -1,22 +1,26 @@
-//! The decision for one request: what it asks of the nonce table, and whether it is admitted.
+//! The decision for one request: what it asks of a source of random words and of the nonce table, and whether the
+//! request is admitted (RFC 9110 section 11, RFC 7616).
+//!
+//! A `Decision` makes no call itself. It goes from stage to stage by the answers that its caller hands in.
 #![tactic(auto)]
 
-mod asking;
+mod asks;
+mod candidate;
 mod challenges;
-mod course;
+mod credentials;
 mod decision;
+mod info;
 mod paths;
-mod proofs;
-mod readings;
+mod response;
 mod site;
-mod steps;
+mod stages;
 mod verdict;
 
+pub use candidate::Candidate;
+pub use credentials::{CredentialsField, Presented, RequestCredentials, credentials_field};
 pub use decision::{Decision, asks_few};
+pub use info::Proof;
 pub use paths::{correspond, path_of, without_authority};
-pub use readings::credentials_field;
 pub use site::Site;
-pub use verdict::{Answer, Ask, Candidate, Course, Field, Proof, Reading, Verdict, Why};
-
-#[cfg(test)]
-mod tests;
+pub use stages::{NEXT_NONCE_USES, Purpose, Stage};
+pub use verdict::{Ask, Verdict, Why};

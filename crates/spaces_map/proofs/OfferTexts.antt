@@ -9,7 +9,8 @@ use Rattle.std.proofs.lemmas.List.Splits.{slice_split_none, slice_split_at, leng
 use Rattle.auth_hash.specs.declared.algorithm.Algorithm.{Algorithm}
 use Rattle.auth_hash.specs.declared.algorithm.Algorithm.TheVariants.{Md5, Sha256, Sha512t256}
 use Rattle.spaces_map.specs.Follows.{EachFits}
-use Rattle.spaces_map.specs.Kinds.{algorithm_name, flag_text, kind_name, offer_text, kinds_text, has_kind, IsOther, IsOffers}
+use Rattle.auth_hash.specs.Algorithm.{algorithm_name}
+use Rattle.spaces_map.specs.Kinds.{flag_text, kind_name, offer_text, kinds_text, has_kind, IsOther, IsOffers}
 use Rattle.spaces_map.specs.Lines.{is_visible}
 use Rattle.spaces_map.specs.declared.space.Offer.{Offer}
 use Rattle.spaces_map.specs.declared.space.OfferKind.{OfferKind}

@@ -1,19 +1,11 @@
 -- How a text of spaces names what a space offers.
 use Rattle.std.specs.Prelude.{◌≡◌, ◌<◌, ℕ, Bool, true, false, ◌&&◌, not, List, [], ◌++◌, length, map, codes}
 use Rattle.std.specs.List.{join_with_byte, list_any}
-use Rattle.auth_hash.specs.Algorithm.{same_algorithm}
-use Rattle.auth_hash.specs.declared.algorithm.Algorithm.{Algorithm}
-use Rattle.auth_hash.specs.declared.algorithm.Algorithm.TheVariants.{Md5, Sha256, Sha512t256}
+use Rattle.auth_hash.specs.Algorithm.{algorithm_name, same_algorithm}
 use Rattle.spaces_map.specs.Follows.{EachFits}
 use Rattle.spaces_map.specs.declared.space.Offer.{Offer}
 use Rattle.spaces_map.specs.declared.space.OfferKind.{OfferKind}
 use Rattle.spaces_map.specs.declared.space.OfferKind.TheVariants.{Digest}
-
--- the name of an algorithm (RFC 7616 section 6.1)
-abbrev pub algorithm_name : Algorithm → List ℕ
-algorithm_name Md5 = codes "MD5"
-algorithm_name Sha256 = codes "SHA-256"
-algorithm_name Sha512t256 = codes "SHA-512-256"
 
 -- what stands at the end where the flag is set
 abbrev pub flag_text : List ℕ → Bool → List ℕ

@@ -1,7 +1,6 @@
 //! Reading what a space offers.
 ghost use Rattle.std.specs.Prelude.{◌≡◌, ◌≢◌, ◌++◌, ℕ, List, IfOk, IfSome, IfNone, false};
-ghost use Rattle.auth_hash.specs.declared.algorithm.Algorithm.{Algorithm as AlgorithmValue};
-ghost use Rattle.spaces_map.specs.Kinds.{IsOffers, algorithm_name, flag_text, has_kind, kind_name, kinds_text, offer_text, same_flag, same_kind};
+ghost use Rattle.spaces_map.specs.Kinds.{IsOffers, flag_text, has_kind, kind_name, kinds_text, offer_text, same_flag, same_kind};
 ghost use Rattle.spaces_map.specs.declared.space.Offer.{Offer as OfferValue};
 ghost use Rattle.spaces_map.specs.declared.space.OfferKind.{OfferKind as OfferKindValue};
 
@@ -21,30 +20,13 @@ fn split_flag<'t>(text: &'t [u8], flag: &[u8]) -> (&'t [u8], bool)
     }
 }
 
-/// The algorithm of this name, in exactly this spelling.
-fn algorithm_named(name: &[u8]) -> Option<Algorithm>
-    ensures some { IfSome result (λ alg. name.now ≡ algorithm_name alg) }
-    ensures none { IfNone result ((alg : AlgorithmValue) → name.now ≢ algorithm_name alg) }
-{
-    if name == b"MD5".as_slice() {
-        return Some(Algorithm::Md5);
-    }
-    if name == b"SHA-256".as_slice() {
-        return Some(Algorithm::Sha256);
-    }
-    if name == b"SHA-512-256".as_slice() {
-        return Some(Algorithm::Sha512t256);
-    }
-    None
-}
-
 /// The kind of this name.
 fn kind_named(name: &[u8]) -> Option<OfferKind>
     ensures some { IfSome result (λ kind. name.now ≡ kind_name kind) }
     ensures none { IfNone result ((kind : OfferKindValue) → name.now ≢ kind_name kind) }
 {
     let (name, session) = split_flag(name, b"-sess");
-    let Some(alg) = algorithm_named(name) else {
+    let Some(alg) = Algorithm::named(name) else {
         return None;
     };
     Some(OfferKind::Digest { alg, session })

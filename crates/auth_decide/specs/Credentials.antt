@@ -1,0 +1,83 @@
+-- The credentials of a request, as the lines of their field say them (RFC 9110 sections 11.4, 11.6.2 and 11.7.2).
+use Rattle.std.specs.Prelude.{◌≡◌, ◌≢◌, ℕ, false, if◌then◌else◌, List, [], ◌∷◌, Option, Some, None, Result, Ok, Err, codes, ⊤}
+use Rattle.auth_grammar.specs.Names.{has_repeat, params_of, same_name}
+use Rattle.auth_grammar.specs.Answers.{Refuses}
+use Rattle.auth_grammar.specs.Items.{SpellsCredentials}
+use Rattle.auth_grammar.specs.declared.error.GrammarError.{GrammarError}
+use Rattle.auth_grammar.specs.declared.error.GrammarError.TheVariants.{NotGrammar, Twice, OutOfMemory}
+use Rattle.auth_grammar.specs.declared.grammar.Grammar.TheVariants as Of
+use Rattle.auth_grammar.specs.declared.items.Item.{Item}
+use Rattle.auth_grammar.specs.declared.items.Role.{Role}
+use Rattle.auth_grammar.specs.declared.items.Role.TheVariants.{Origin, Proxy}
+use Rattle.http_wire.specs.Fields.{values_of}
+use Rattle.http_wire.specs.declared.request.Request.{Request}
+use Rattle.nonce_shard.specs.Names.{name_text, IsName}
+use Rattle.nonce_shard.specs.declared.names.TableName.{TableName}
+use Rattle.digest_fields.specs.Credentials.{Credentials, credentials_of}
+use Rattle.digest_fields.specs.declared.field.FieldError.{FieldError}
+use Rattle.auth_decide.specs.declared.credentials.CredentialsField.{CredentialsField}
+use Rattle.auth_decide.specs.declared.credentials.CredentialsField.TheVariants as field
+use Rattle.auth_decide.specs.declared.credentials.Presented.{Presented}
+use Rattle.auth_decide.specs.declared.credentials.Presented.TheVariants.{Nothing, Malformed, OtherScheme, Digest}
+use Rattle.auth_decide.specs.declared.credentials.RequestCredentials.{RequestCredentials}
+use Rattle.auth_decide.specs.declared.verdict.Why.TheVariants as why
+
+-- ---- the lines
+
+-- the field with the credentials for a role, in lower case
+abbrev pub credentials_field : Role → List ℕ
+credentials_field Origin = codes "authorization"
+credentials_field Proxy = codes "proxy-authorization"
+
+-- its lines
+abbrev pub credentials_lines : Role → Request → List (List ℕ)
+credentials_lines role request = values_of request.fields (credentials_field role)
+
+-- the line spells this item and no other, and no parameter comes twice in it
+pub record SpellsOne (line : List ℕ) (item : Item) : Type 0 where
+  pub spelled : SpellsCredentials line item
+  pub only : (other : Item) → SpellsCredentials line other → other ≡ item
+  pub single : has_repeat (params_of item.rest) ≡ false
+
+-- a fault of the text, and not want of memory
+abbrev pub IsFault : GrammarError → Type 0
+IsFault (NotGrammar at) = ⊤
+IsFault (Twice at name) = ⊤
+IsFault OutOfMemory = ⊥
+
+-- what the lines say
+abbrev pub LinesSay : List (List ℕ) → CredentialsField → Type 0
+LinesSay [] says = says ≡ field.Absent
+LinesSay (line ∷ []) (field.Item item) = SpellsOne line item
+LinesSay (line ∷ []) field.Malformed = (error : GrammarError) × IsFault error × Refuses Of.Credentials line error
+LinesSay (line ∷ []) field.Absent = ⊥
+LinesSay (line ∷ next ∷ lines) says = says ≡ field.Malformed
+
+-- ---- what is presented
+
+abbrev pub presented_digest : Result Credentials FieldError → Presented
+presented_digest (Ok credentials) = Digest credentials
+presented_digest (Err error) = Malformed why.Field
+
+abbrev pub presented : CredentialsField → Presented
+presented field.Absent = Nothing
+presented field.Malformed = Malformed why.Credentials
+presented (field.Item item) =
+    if same_name item.scheme (codes "Digest") then presented_digest (credentials_of (params_of item.rest)) else OtherScheme
+
+-- the nonce of Digest credentials, and an empty text where there are none
+abbrev pub nonce_in : Presented → List ℕ
+nonce_in (Digest credentials) = credentials.nonce
+nonce_in Nothing = []
+nonce_in (Malformed why) = []
+nonce_in OtherScheme = []
+
+-- The text is that of a name of the nonce table, or of none.
+abbrev pub Names : List ℕ → Option TableName → Type 0
+Names text (Some name) = (text ≡ name_text name) × IsName name
+Names text None = (name : TableName) → IsName name → text ≢ name_text name
+
+-- what the lines say, and which name of the nonce table the nonce is
+pub record Reads (lines : List (List ℕ)) (credentials : RequestCredentials) : Type 0 where
+  pub field : LinesSay lines credentials.field
+  pub nonce : Names (nonce_in (presented credentials.field)) credentials.nonce

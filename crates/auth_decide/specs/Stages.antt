@@ -1,0 +1,179 @@
+-- The stages of a decision: the first one, and what each answer leads on to (RFC 9110 section 11, RFC 7616 sections 3.3 to 3.5).
+use Rattle.std.specs.Prelude.{ℕ, ◌%◌, Bool, true, false, nat_lt, if◌then◌else◌, List, fold, Option, Some, None, slice_index}
+use Rattle.arrayvec.specs.ArrayVec.{ArrayVec}
+use Rattle.auth_grammar.specs.declared.items.Role.{Role}
+use Rattle.auth_grammar.specs.declared.items.Role.TheVariants.{Origin, Proxy}
+use Rattle.cred_store.specs.declared.entry.Entry.{Entry}
+use Rattle.digest_fields.specs.Credentials.{Credentials}
+use Rattle.http_wire.specs.declared.request.Request.{Request}
+use Rattle.nonce_shard.specs.declared.calls.Reply.{Reply}
+use Rattle.nonce_shard.specs.declared.calls.Reply.TheVariants as reply
+use Rattle.nonce_shard.specs.declared.names.NameKind.TheVariants as kind
+use Rattle.nonce_shard.specs.declared.names.TableName.{TableName}
+use Rattle.spaces_map.specs.Spaces.{space_of}
+use Rattle.spaces_map.specs.declared.space.Mode.{Mode}
+use Rattle.spaces_map.specs.declared.space.Mode.TheVariants as mode
+use Rattle.spaces_map.specs.declared.space.Space.{Space}
+use Rattle.auth_decide.specs.Candidates.{candidate_of}
+use Rattle.auth_decide.specs.Credentials.{presented}
+use Rattle.auth_decide.specs.Paths.{correspond, path_of, root_path}
+use Rattle.auth_decide.specs.Responses.{is_right}
+use Rattle.auth_decide.specs.declared.candidate.Candidate.{Candidate}
+use Rattle.auth_decide.specs.declared.credentials.Presented.{Presented}
+use Rattle.auth_decide.specs.declared.credentials.Presented.TheVariants as presents
+use Rattle.auth_decide.specs.declared.credentials.RequestCredentials.{RequestCredentials}
+use Rattle.auth_decide.specs.declared.site.Site.{Site}
+use Rattle.auth_decide.specs.declared.stages.Purpose.{Purpose}
+use Rattle.auth_decide.specs.declared.stages.Purpose.TheVariants.{Offer, Challenge, Next}
+use Rattle.auth_decide.specs.declared.stages.Stage.{Stage}
+use Rattle.auth_decide.specs.declared.stages.Stage.TheVariants.{Open, Bad, Drawing, Issuing, Issued, Peeking, Using, Admitted, Mismatched}
+use Rattle.auth_decide.specs.declared.stages.TheConstants.{NEXT_NONCE_USES}
+use Rattle.auth_decide.specs.declared.verdict.Why.TheVariants as why
+
+-- a request as it is decided: whose authentication it is, its moment, the site, the number of the nonce table's shards,
+-- and its credentials as its lines say them
+pub record Question : Type 0 where
+  pub role : Role
+  pub request : Request
+  pub moment : ℕ
+  pub site : Site
+  pub shards : ℕ
+  pub credentials : RequestCredentials
+
+-- ---- the protection space
+
+-- the path that it is found by: that of the target, for a proxy the root
+abbrev pub space_path : Role → List ℕ → List ℕ
+space_path Origin target = path_of target
+space_path Proxy target = root_path
+
+-- an open space asks for no credentials, as if there was none
+abbrev pub unless_open : Space → Mode → Option Space
+unless_open space mode.Open = None
+unless_open space mode.Optional = Some space
+unless_open space mode.Required = Some space
+
+abbrev pub space_asking : Option Space → Option Space
+space_asking None = None
+space_asking (Some space) = unless_open space space.mode
+
+-- the space of a request, where it asks for credentials
+abbrev pub protection_space : Role → Request → Site → Option Space
+protection_space role request site = space_asking (space_of (space_path role request.target) site.spaces)
+
+-- ---- what the response leads to
+
+-- a new nonce is drawn for a challenge
+abbrev pub challenge_stage : Bool → Stage
+challenge_stage stale = Drawing (Challenge stale)
+
+-- a right response, whose count is used where the table may have the nonce
+abbrev pub right_stage : Candidate → List ℕ → Option TableName → Stage
+right_stage c prime None = challenge_stage true
+right_stage c prime (Some nonce) = Using c (record { items = prime }) nonce
+
+-- The response is checked before anything is marked.
+abbrev pub response_stage : Request → Candidate → List ℕ → Option TableName → Stage
+response_stage request c prime name = if is_right request c prime then right_stage c prime name else challenge_stage false
+
+-- ---- the first stage
+
+-- a name that the table may have, since it has its shard
+abbrev pub name_within : ℕ → Option TableName → Option TableName
+name_within shards None = None
+name_within shards (Some nonce) = if nat_lt nonce.shard shards then Some nonce else None
+
+-- Of a session, the client's nonce that began it is looked up first.
+abbrev pub candidate_stage : Request → Candidate → Option TableName → Stage
+candidate_stage request c None = response_stage request c c.credentials.cnonce None
+candidate_stage request c (Some nonce) =
+    if c.credentials.kind.session then Peeking c nonce else response_stage request c c.credentials.cnonce (Some nonce)
+
+abbrev pub taken_stage : Request → Option TableName → Option Candidate → Stage
+taken_stage request name None = challenge_stage false
+taken_stage request name (Some c) = candidate_stage request c name
+
+-- credentials of Digest: first their `uri`, then whether the space takes them
+abbrev pub digest_stage : Request → Option TableName → Space → List Entry → Credentials → Stage
+digest_stage request name space store c =
+    if correspond c.uri request.target then taken_stage request name (candidate_of space store c) else Bad why.Uri
+
+-- without credentials
+abbrev pub mode_stage : Mode → Stage
+mode_stage mode.Open = Open
+mode_stage mode.Optional = Drawing Offer
+mode_stage mode.Required = challenge_stage false
+
+abbrev pub presented_stage : Request → Option TableName → Space → List Entry → Presented → Stage
+presented_stage request name space store presents.Nothing = mode_stage space.mode
+presented_stage request name space store (presents.Malformed why) = Bad why
+presented_stage request name space store presents.OtherScheme = challenge_stage false
+presented_stage request name space store (presents.Digest c) = digest_stage request name space store c
+
+abbrev pub first_stage_in : Question → Option Space → Stage
+first_stage_in q None = Open
+first_stage_in q (Some space) =
+    presented_stage q.request (name_within q.shards q.credentials.nonce) space q.site.store (presented q.credentials.field)
+
+unfoldable pub first_stage : Question → Stage
+first_stage q = first_stage_in q (protection_space q.role q.request q.site)
+
+-- ---- what an answer leads on to
+
+-- what an ask got
+pub data Answer : Type 0 where
+  Words : List ℕ → Answer
+  Replied : Reply → Answer
+
+-- random words are drawn for a new nonce; a decision that has ended stays as it is
+abbrev pub stage_after_words : Stage → List ℕ → Stage
+stage_after_words (Drawing purpose) words = Issuing purpose words
+stage_after_words (Issuing purpose drawn) words = Mismatched
+stage_after_words (Peeking c nonce) words = Mismatched
+stage_after_words (Using c prime nonce) words = Mismatched
+stage_after_words stage words = stage
+
+-- the first of the words chooses the shard
+abbrev pub shard_for : ℕ → List ℕ → ℕ
+shard_for shards words = slice_index words 0 % shards
+
+abbrev pub new_name : ℕ → List ℕ → ℕ → TableName
+new_name shards words serial = record { kind = kind.Nonce; shard = shard_for shards words; serial = serial; random = words }
+
+abbrev pub stage_after_issue : ℕ → Purpose → List ℕ → Reply → Stage
+stage_after_issue shards purpose words (reply.Issued serial) = Issued purpose (new_name shards words serial)
+stage_after_issue shards purpose words _ = Mismatched
+
+-- the client's nonce that began the session, or its nonce in this request where none has begun
+abbrev pub stage_after_peek : Request → Candidate → TableName → Reply → Stage
+stage_after_peek request c nonce (reply.Prime (Some prime)) = response_stage request c prime.items (Some nonce)
+stage_after_peek request c nonce (reply.Prime None) = response_stage request c c.credentials.cnonce (Some nonce)
+stage_after_peek request c nonce reply.Gone = response_stage request c c.credentials.cnonce None
+stage_after_peek request c nonce _ = Mismatched
+
+-- From so many uses of a nonce on, the next nonce is offered (`nextnonce`, RFC 7616 section 3.5).
+abbrev pub admitted_stage : Candidate → ArrayVec ℕ → ℕ → Stage
+admitted_stage c prime uses = if nat_lt uses NEXT_NONCE_USES then Admitted c prime else Drawing (Next c prime)
+
+abbrev pub stage_after_use : Candidate → ArrayVec ℕ → Reply → Stage
+stage_after_use c prime (reply.Fresh uses) = admitted_stage c prime uses
+stage_after_use c prime reply.Gone = challenge_stage true
+stage_after_use c prime (reply.Behind high) = challenge_stage true
+stage_after_use c prime reply.Repeated = challenge_stage true
+stage_after_use c prime reply.OtherSession = challenge_stage false
+stage_after_use c prime _ = Mismatched
+
+abbrev pub stage_after_reply : Request → ℕ → Stage → Reply → Stage
+stage_after_reply request shards (Issuing purpose words) r = stage_after_issue shards purpose words r
+stage_after_reply request shards (Peeking c nonce) r = stage_after_peek request c nonce r
+stage_after_reply request shards (Using c prime nonce) r = stage_after_use c prime r
+stage_after_reply request shards (Drawing purpose) r = Mismatched
+stage_after_reply request shards stage r = stage
+
+abbrev pub stage_after : Question → Stage → Answer → Stage
+stage_after q stage (Words words) = stage_after_words stage words
+stage_after q stage (Replied r) = stage_after_reply q.request q.shards stage r
+
+-- the stage after these answers
+abbrev pub stage_at : Question → List Answer → Stage
+stage_at q answers = fold (stage_after q) (first_stage q) answers

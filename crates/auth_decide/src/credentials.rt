@@ -1,0 +1,164 @@
+//! The credentials of a request, as the lines of their field say them.
+ghost use Rattle.std.specs.Prelude.{◌≡◌, IfOk};
+ghost use Rattle.auth_decide.specs.Credentials.{LinesSay, Names, Reads, credentials_field, credentials_lines, nonce_in, presented};
+
+use crate::verdict::Why;
+use auth_grammar::{
+    GrammarError, Item, OctetsList, OutOfMemory, Role, read_credentials, same_name,
+};
+use digest_fields::{DigestCredentials, FieldError};
+use http_wire::Request;
+use nonce_shard::TableName;
+use std::alloc::Global;
+use std::fmt;
+
+/// What the field with credentials says (RFC 9110 section 11.4). `Debug` prints none of the credentials.
+#[derive(Drop)]
+pub enum CredentialsField {
+    /// There is no such field.
+    Absent,
+    /// It is one line, which spells this item with no parameter twice.
+    Item(Item),
+    /// It is several lines, or one that spells no item or one with a parameter twice.
+    Malformed,
+}
+
+impl fmt::Debug for CredentialsField {
+    fn fmt<W: fmt::Write>(&self, f: &mut fmt::Formatter<W>) -> fmt::Result {
+        f.write_str(match self {
+            CredentialsField::Absent => "Absent",
+            CredentialsField::Item(_) => "Item(...)",
+            CredentialsField::Malformed => "Malformed",
+        })
+    }
+}
+
+/// The credentials of a request, as its lines say them.
+#[derive(Drop)]
+pub struct RequestCredentials {
+    /// What their field says.
+    pub field: CredentialsField,
+    /// The name of the nonce table that the nonce of Digest credentials is, if it is one.
+    pub nonce: Option<TableName>,
+}
+
+impl fmt::Debug for RequestCredentials {
+    fn fmt<W: fmt::Write>(&self, f: &mut fmt::Formatter<W>) -> fmt::Result {
+        f.debug_struct("RequestCredentials")
+            .field("field", &self.field)
+            .field("nonce", &self.nonce)
+            .finish()
+    }
+}
+
+/// What a request presents, by what its field says. `Debug` prints none of the credentials.
+#[derive(Drop)]
+pub enum Presented {
+    /// No credentials.
+    Nothing,
+    /// Credentials out of form.
+    Malformed(Why),
+    /// Credentials of another scheme than Digest.
+    OtherScheme,
+    /// Credentials of Digest whose parameters are accepted.
+    Digest(DigestCredentials),
+}
+
+impl fmt::Debug for Presented {
+    fn fmt<W: fmt::Write>(&self, f: &mut fmt::Formatter<W>) -> fmt::Result {
+        f.write_str(match self {
+            Presented::Nothing => "Nothing",
+            Presented::Malformed(_) => "Malformed(...)",
+            Presented::OtherScheme => "OtherScheme",
+            Presented::Digest(_) => "Digest(...)",
+        })
+    }
+}
+
+/// The field with the credentials for a role, in lower case (RFC 9110 sections 11.6.2 and 11.7.2).
+pub fn credentials_field(role: Role) -> &'static [u8]
+    ensures { result.now ≡ credentials_field role }
+{
+    match role {
+        Role::Origin => b"authorization",
+        Role::Proxy => b"proxy-authorization",
+    }
+}
+
+/// What the lines of the field say.
+fn field_of(alloc: Global, lines: &OctetsList) -> Result<CredentialsField, OutOfMemory>
+    ensures { IfOk result (λ field. LinesSay lines.now field) }
+{
+    match lines.as_slice() {
+        [] => Ok(CredentialsField::Absent),
+        [line] => match read_credentials(alloc, line.bytes()) {
+            Ok(item) => Ok(CredentialsField::Item(item)),
+            Err(GrammarError::OutOfMemory) => Err(OutOfMemory),
+            Err(_) => Ok(CredentialsField::Malformed),
+        },
+        _ => Ok(CredentialsField::Malformed),
+    }
+}
+
+/// What the field presents. It is read no further than this.
+fn presented_by(alloc: Global, field: &CredentialsField) -> Result<Presented, OutOfMemory>
+    ensures { IfOk result (λ presents. presents ≡ presented field.now) }
+{
+    let item = match field {
+        CredentialsField::Absent => return Ok(Presented::Nothing),
+        CredentialsField::Malformed => return Ok(Presented::Malformed(Why::Credentials)),
+        CredentialsField::Item(item) => item,
+    };
+    if !same_name(item.scheme.bytes(), b"Digest") {
+        return Ok(Presented::OtherScheme);
+    }
+    match DigestCredentials::from_item(alloc, item) {
+        Ok(credentials) => Ok(Presented::Digest(credentials)),
+        Err(FieldError::OutOfMemory) => Err(OutOfMemory),
+        Err(_) => Ok(Presented::Malformed(Why::Field)),
+    }
+}
+
+/// The nonce of Digest credentials, and an empty text where there are none.
+fn nonce_in(presented: &Presented) -> &[u8]
+    ensures { result.now ≡ nonce_in presented.now }
+{
+    match presented {
+        Presented::Digest(credentials) => credentials.nonce.bytes(),
+        _ => b"",
+    }
+}
+
+/// The name of the nonce table that the text is, if it is one.
+fn name_of(text: &[u8]) -> Option<TableName>
+    ensures { Names text.now result }
+{
+    TableName::read(text)
+}
+
+/// The credentials that the lines of the field say, and what they present.
+fn read_lines(
+    alloc: Global,
+    lines: &OctetsList,
+) -> Result<(RequestCredentials, Presented), OutOfMemory>
+    ensures reads { IfOk result (λ read. Reads lines.now read.0) }
+    ensures presented { IfOk result (λ read. read.1 ≡ presented read.0.field) }
+{
+    let field = field_of(alloc, lines)?;
+    let presented = presented_by(alloc, &field)?;
+    let nonce = name_of(nonce_in(&presented));
+    Ok((RequestCredentials { field, nonce }, presented))
+}
+
+/// The credentials of a request for a role, and what they present.
+pub(crate) fn read_request(
+    alloc: Global,
+    role: Role,
+    request: &Request,
+) -> Result<(RequestCredentials, Presented), OutOfMemory>
+    ensures reads { IfOk result (λ read. Reads (credentials_lines role request.now) read.0) }
+    ensures presented { IfOk result (λ read. read.1 ≡ presented read.0.field) }
+{
+    let lines = request.fields.lines(alloc, credentials_field(role))?;
+    read_lines(alloc, &lines)
+}
