@@ -1,7 +1,7 @@
 -- The answers that a decision had, and what comes after them.
 use Rattle.std.proofs.Common.{◌≡◌, ◌∷◌, [], ◌++◌, ℕ, List, Option, refl, ap}
-use Rattle.auth_decide.specs.declared.verdict.Answer.{Answer}
-use Rattle.auth_decide.specs.declared.verdict.Answer.TheVariants.{Words, Replied}
+use Rattle.auth_decide.specs.Stages.{Answer}
+use Rattle.auth_decide.specs.Stages.{Words, Replied}
 use Rattle.auth_io.proofs.Later.{later_none}
 use Rattle.auth_io.proofs.Passing.{AddsAsked_none}
 use Rattle.auth_io.specs.Files.{Contents, AddsAsked}
@@ -16,7 +16,7 @@ pub after_more : (xs ys : List Event) → after_answers xs ≡ [] → after_answ
 after_more [] ys none = refl
 after_more (Drew words ∷ xs) ys none = after_more xs ys none
 after_more (Called shard call reply ∷ xs) ys none = after_more xs ys none
-after_more (CredentialsRead lines reading ∷ xs) ys none = absurd (let no : CredentialsRead lines reading ∷ xs ≡ [] = none in cc)
+after_more (CredentialsRead lines credentials ∷ xs) ys none = absurd (let no : CredentialsRead lines credentials ∷ xs ≡ [] = none in cc)
 after_more (FileRead name answer ∷ xs) ys none = absurd (let no : FileRead name answer ∷ xs ≡ [] = none in cc)
 after_more (FileReplaced name bytes ending ∷ xs) ys none = absurd (let no : FileReplaced name bytes ending ∷ xs ≡ [] = none in cc)
 
@@ -24,7 +24,7 @@ pub answers_more : (xs ys : List Event) → after_answers xs ≡ [] → answers_
 answers_more [] ys none = refl
 answers_more (Drew words ∷ xs) ys none = ap (λ (l : List Answer). Words words ∷ l) (answers_more xs ys none)
 answers_more (Called shard call reply ∷ xs) ys none = ap (λ (l : List Answer). Replied reply ∷ l) (answers_more xs ys none)
-answers_more (CredentialsRead lines reading ∷ xs) ys none = absurd (let no : CredentialsRead lines reading ∷ xs ≡ [] = none in cc)
+answers_more (CredentialsRead lines credentials ∷ xs) ys none = absurd (let no : CredentialsRead lines credentials ∷ xs ≡ [] = none in cc)
 answers_more (FileRead name answer ∷ xs) ys none = absurd (let no : FileRead name answer ∷ xs ≡ [] = none in cc)
 answers_more (FileReplaced name bytes ending ∷ xs) ys none = absurd (let no : FileReplaced name bytes ending ∷ xs ≡ [] = none in cc)
 
@@ -34,7 +34,7 @@ contents_stay : (xs : List Event) → after_answers xs ≡ [] → (c : Option Co
 contents_stay [] none c = refl
 contents_stay (Drew words ∷ xs) none c = contents_stay xs none c
 contents_stay (Called shard call reply ∷ xs) none c = contents_stay xs none c
-contents_stay (CredentialsRead lines reading ∷ xs) none c = absurd (let no : CredentialsRead lines reading ∷ xs ≡ [] = none in cc)
+contents_stay (CredentialsRead lines credentials ∷ xs) none c = absurd (let no : CredentialsRead lines credentials ∷ xs ≡ [] = none in cc)
 contents_stay (FileRead name answer ∷ xs) none c = absurd (let no : FileRead name answer ∷ xs ≡ [] = none in cc)
 contents_stay (FileReplaced name bytes ending ∷ xs) none c = absurd (let no : FileReplaced name bytes ending ∷ xs ≡ [] = none in cc)
 
@@ -42,7 +42,7 @@ faults_stay : (xs : List Event) → after_answers xs ≡ [] → (n : ℕ) → Fa
 faults_stay [] none n = refl
 faults_stay (Drew words ∷ xs) none n = faults_stay xs none n
 faults_stay (Called shard call reply ∷ xs) none n = faults_stay xs none n
-faults_stay (CredentialsRead lines reading ∷ xs) none n = absurd (let no : CredentialsRead lines reading ∷ xs ≡ [] = none in cc)
+faults_stay (CredentialsRead lines credentials ∷ xs) none n = absurd (let no : CredentialsRead lines credentials ∷ xs ≡ [] = none in cc)
 faults_stay (FileRead name answer ∷ xs) none n = absurd (let no : FileRead name answer ∷ xs ≡ [] = none in cc)
 faults_stay (FileReplaced name bytes ending ∷ xs) none n = absurd (let no : FileReplaced name bytes ending ∷ xs ≡ [] = none in cc)
 
@@ -50,7 +50,7 @@ asked_none : (xs : List Event) → after_answers xs ≡ [] → (a : Option (List
 asked_none [] none a = AddsAsked_none a
 asked_none (Drew words ∷ xs) none a = asked_none xs none a
 asked_none (Called shard call reply ∷ xs) none a = asked_none xs none a
-asked_none (CredentialsRead lines reading ∷ xs) none a = absurd (let no : CredentialsRead lines reading ∷ xs ≡ [] = none in cc)
+asked_none (CredentialsRead lines credentials ∷ xs) none a = absurd (let no : CredentialsRead lines credentials ∷ xs ≡ [] = none in cc)
 asked_none (FileRead name answer ∷ xs) none a = absurd (let no : FileRead name answer ∷ xs ≡ [] = none in cc)
 asked_none (FileReplaced name bytes ending ∷ xs) none a = absurd (let no : FileReplaced name bytes ending ∷ xs ≡ [] = none in cc)
 

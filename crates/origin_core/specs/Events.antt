@@ -1,8 +1,7 @@
 -- What was done for requests, one after the other, and what it tells.
 use Rattle.std.specs.Prelude.{◌≡◌, ◌≢◌, ℕ, List, [], ◌∷◌, ◌++◌, Option, ⊤}
-use Rattle.auth_decide.specs.Readings.{Reads}
-use Rattle.auth_decide.specs.declared.verdict.Answer.{Answer}
-use Rattle.auth_decide.specs.declared.verdict.Answer.TheVariants.{Words, Replied}
+use Rattle.auth_decide.specs.Credentials.{Reads}
+use Rattle.auth_decide.specs.Stages.{Answer, Words, Replied}
 use Rattle.auth_io.specs.Files.{Contents, ReadAnswers, ReadRose, ReplaceRose, read_entry, contents_after}
 use Rattle.auth_io.specs.declared.files.Ending.{Ending}
 use Rattle.auth_io.specs.declared.files.Ending.TheVariants.{Well, FailedBefore, FailedDone}
@@ -10,6 +9,7 @@ use Rattle.auth_io.specs.declared.files.FileAnswer.TheVariants.{OutOfMemory}
 use Rattle.auth_io.specs.declared.files.Replaced.{Replaced}
 use Rattle.auth_io.specs.declared.files.Replaced.TheVariants.{Done, Failed}
 use Rattle.nonce_shard.specs.Seat.{Made}
+use Rattle.origin_core.specs.declared.carrying.TheConstants.{FILE_LIMIT}
 use Rattle.origin_core.specs.declared.events.Event.{Event}
 use Rattle.origin_core.specs.declared.events.Event.TheVariants.{CredentialsRead, Drew, Called, FileRead, FileReplaced}
 use Rattle.origin_core.specs.declared.events.Operation.{Operation}
@@ -17,7 +17,7 @@ use Rattle.origin_core.specs.declared.events.Operation.TheVariants.{ReadCredenti
 
 -- the operation that was done
 abbrev pub operation_of : Event → Operation
-operation_of (CredentialsRead lines reading) = ReadCredentials lines
+operation_of (CredentialsRead lines credentials) = ReadCredentials lines
 operation_of (Drew words) = Draw
 operation_of (Called shard call reply) = CallTable shard call
 operation_of (FileRead name answer) = ReadFile name
@@ -36,7 +36,7 @@ abbrev pub answers_in : List Event → List Answer
 answers_in [] = []
 answers_in (Drew words ∷ events) = Words words ∷ answers_in events
 answers_in (Called shard call reply ∷ events) = Replied reply ∷ answers_in events
-answers_in (CredentialsRead lines reading ∷ events) = []
+answers_in (CredentialsRead lines credentials ∷ events) = []
 answers_in (FileRead name answer ∷ events) = []
 answers_in (FileReplaced name bytes ending ∷ events) = []
 
@@ -45,7 +45,7 @@ abbrev pub after_answers : List Event → List Event
 after_answers [] = []
 after_answers (Drew words ∷ events) = after_answers events
 after_answers (Called shard call reply ∷ events) = after_answers events
-after_answers (CredentialsRead lines reading ∷ events) = CredentialsRead lines reading ∷ events
+after_answers (CredentialsRead lines credentials ∷ events) = CredentialsRead lines credentials ∷ events
 after_answers (FileRead name answer ∷ events) = FileRead name answer ∷ events
 after_answers (FileReplaced name bytes ending ∷ events) = FileReplaced name bytes ending ∷ events
 
@@ -55,7 +55,7 @@ after_answers (FileReplaced name bytes ending ∷ events) = FileReplaced name by
 abbrev pub words_in : List Event → List (List ℕ)
 words_in [] = []
 words_in (Drew words ∷ events) = words ∷ words_in events
-words_in (CredentialsRead lines reading ∷ events) = words_in events
+words_in (CredentialsRead lines credentials ∷ events) = words_in events
 words_in (Called shard call reply ∷ events) = words_in events
 words_in (FileRead name answer ∷ events) = words_in events
 words_in (FileReplaced name bytes ending ∷ events) = words_in events
@@ -64,7 +64,7 @@ words_in (FileReplaced name bytes ending ∷ events) = words_in events
 abbrev pub calls_in : List Event → List Made
 calls_in [] = []
 calls_in (Called shard call reply ∷ events) = record { shard = shard; call = call; reply = reply } ∷ calls_in events
-calls_in (CredentialsRead lines reading ∷ events) = calls_in events
+calls_in (CredentialsRead lines credentials ∷ events) = calls_in events
 calls_in (Drew words ∷ events) = calls_in events
 calls_in (FileRead name answer ∷ events) = calls_in events
 calls_in (FileReplaced name bytes ending ∷ events) = calls_in events
@@ -74,20 +74,16 @@ abbrev pub files_in : List Event → List (List ℕ × Ending)
 files_in [] = []
 files_in (FileRead name answer ∷ events) = read_entry name answer ++ files_in events
 files_in (FileReplaced name bytes ending ∷ events) = (name, ending) ∷ files_in events
-files_in (CredentialsRead lines reading ∷ events) = files_in events
+files_in (CredentialsRead lines credentials ∷ events) = files_in events
 files_in (Drew words ∷ events) = files_in events
 files_in (Called shard call reply ∷ events) = files_in events
-
--- the most bytes of a file that is served
-abbrev pub file_limit : ℕ
-file_limit = 16777216
 
 -- Each read was answered by the contents at its place, and each replace changed them as it ended.
 abbrev pub ContentsPass : List Event → Option Contents → Option Contents → Type 0
 ContentsPass [] old new = new ≡ old
-ContentsPass (FileRead name answer ∷ events) old new = ReadAnswers old name file_limit answer × ContentsPass events old new
+ContentsPass (FileRead name answer ∷ events) old new = ReadAnswers old name FILE_LIMIT answer × ContentsPass events old new
 ContentsPass (FileReplaced name bytes ending ∷ events) old new = ContentsPass events (contents_after old name bytes ending) new
-ContentsPass (CredentialsRead lines reading ∷ events) old new = ContentsPass events old new
+ContentsPass (CredentialsRead lines credentials ∷ events) old new = ContentsPass events old new
 ContentsPass (Drew words ∷ events) old new = ContentsPass events old new
 ContentsPass (Called shard call reply ∷ events) old new = ContentsPass events old new
 
@@ -96,13 +92,13 @@ abbrev pub FaultsPass : List Event → ℕ → ℕ → Type 0
 FaultsPass [] old new = new ≡ old
 FaultsPass (FileRead name answer ∷ events) old new = (then : ℕ) × ReadRose answer old then × FaultsPass events then new
 FaultsPass (FileReplaced name bytes ending ∷ events) old new = (then : ℕ) × ReplaceRose (replaced_by ending) old then × FaultsPass events then new
-FaultsPass (CredentialsRead lines reading ∷ events) old new = FaultsPass events old new
+FaultsPass (CredentialsRead lines credentials ∷ events) old new = FaultsPass events old new
 FaultsPass (Drew words ∷ events) old new = FaultsPass events old new
 FaultsPass (Called shard call reply ∷ events) old new = FaultsPass events old new
 
 -- Credentials were read as what their lines say. A call of files that found no memory is no event.
 abbrev pub IsSound : Event → Type 0
-IsSound (CredentialsRead lines reading) = Reads lines reading
+IsSound (CredentialsRead lines credentials) = Reads lines credentials
 IsSound (Drew words) = ⊤
 IsSound (Called shard call reply) = ⊤
 IsSound (FileRead name answer) = answer ≢ OutOfMemory

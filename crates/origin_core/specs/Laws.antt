@@ -1,5 +1,6 @@
 -- What passed in two parts passed in one.
 use Rattle.std.proofs.Common.{◌≡◌, ◌∷◌, [], ◌++◌, ◌<◌, ℕ, List, Option, sym, refl, ap, ◌∙◌, subst, append_assoc}
+use Rattle.std.specs.List.{All}
 use Rattle.std.proofs.lemmas.List.Elements.{All-nil, All-append}
 use Rattle.auth_io.proofs.Later.{later_none, later_trans, rose_later}
 use Rattle.auth_io.proofs.Passing.{Adds_trans, Adds_none, AddsAsked_trans, AddsAsked_none}
@@ -21,7 +22,7 @@ use Rattle.origin_core.specs.declared.events.Operation.{Operation}
 pub words_in-append : (xs ys : List Event) → words_in (xs ++ ys) ≡ words_in xs ++ words_in ys
 words_in-append [] ys = refl
 words_in-append (Drew words ∷ xs) ys = ap (λ l. words ∷ l) (words_in-append xs ys)
-words_in-append (CredentialsRead lines reading ∷ xs) ys = words_in-append xs ys
+words_in-append (CredentialsRead lines credentials ∷ xs) ys = words_in-append xs ys
 words_in-append (Called shard call reply ∷ xs) ys = words_in-append xs ys
 words_in-append (FileRead name answer ∷ xs) ys = words_in-append xs ys
 words_in-append (FileReplaced name bytes ending ∷ xs) ys = words_in-append xs ys
@@ -29,7 +30,7 @@ words_in-append (FileReplaced name bytes ending ∷ xs) ys = words_in-append xs 
 pub calls_in-append : (xs ys : List Event) → calls_in (xs ++ ys) ≡ calls_in xs ++ calls_in ys
 calls_in-append [] ys = refl
 calls_in-append (Called shard call reply ∷ xs) ys = ap (λ (l : List Made). record { shard = shard; call = call; reply = reply } ∷ l) (calls_in-append xs ys)
-calls_in-append (CredentialsRead lines reading ∷ xs) ys = calls_in-append xs ys
+calls_in-append (CredentialsRead lines credentials ∷ xs) ys = calls_in-append xs ys
 calls_in-append (Drew words ∷ xs) ys = calls_in-append xs ys
 calls_in-append (FileRead name answer ∷ xs) ys = calls_in-append xs ys
 calls_in-append (FileReplaced name bytes ending ∷ xs) ys = calls_in-append xs ys
@@ -38,7 +39,7 @@ pub files_in-append : (xs ys : List Event) → files_in (xs ++ ys) ≡ files_in 
 files_in-append [] ys = refl
 files_in-append (FileRead name answer ∷ xs) ys = ap (λ (l : List (List ℕ × Ending)). read_entry name answer ++ l) (files_in-append xs ys) ∙ sym (append_assoc (read_entry name answer) (files_in xs) (files_in ys))
 files_in-append (FileReplaced name bytes ending ∷ xs) ys = ap (λ (l : List (List ℕ × Ending)). (name, ending) ∷ l) (files_in-append xs ys)
-files_in-append (CredentialsRead lines reading ∷ xs) ys = files_in-append xs ys
+files_in-append (CredentialsRead lines credentials ∷ xs) ys = files_in-append xs ys
 files_in-append (Drew words ∷ xs) ys = files_in-append xs ys
 files_in-append (Called shard call reply ∷ xs) ys = files_in-append xs ys
 
@@ -48,7 +49,7 @@ contents_pass_then : (xs ys : List Event) (a b c : Option Contents) → Contents
 contents_pass_then [] ys a b c p q = subst (λ (m : Option Contents). ContentsPass ys m c) p q
 contents_pass_then (FileRead name answer ∷ xs) ys a b c p q = (p.0, contents_pass_then xs ys a b c p.1 q)
 contents_pass_then (FileReplaced name bytes ending ∷ xs) ys a b c p q = contents_pass_then xs ys (contents_after a name bytes ending) b c p q
-contents_pass_then (CredentialsRead lines reading ∷ xs) ys a b c p q = contents_pass_then xs ys a b c p q
+contents_pass_then (CredentialsRead lines credentials ∷ xs) ys a b c p q = contents_pass_then xs ys a b c p q
 contents_pass_then (Drew words ∷ xs) ys a b c p q = contents_pass_then xs ys a b c p q
 contents_pass_then (Called shard call reply ∷ xs) ys a b c p q = contents_pass_then xs ys a b c p q
 
@@ -56,7 +57,7 @@ faults_pass_then : (xs ys : List Event) (a b c : ℕ) → FaultsPass xs a b → 
 faults_pass_then [] ys a b c p q = subst (λ (n : ℕ). FaultsPass ys n c) p q
 faults_pass_then (FileRead name answer ∷ xs) ys a b c p q = (p.0, p.1, faults_pass_then xs ys p.0 b c p.2 q)
 faults_pass_then (FileReplaced name bytes ending ∷ xs) ys a b c p q = (p.0, p.1, faults_pass_then xs ys p.0 b c p.2 q)
-faults_pass_then (CredentialsRead lines reading ∷ xs) ys a b c p q = faults_pass_then xs ys a b c p q
+faults_pass_then (CredentialsRead lines credentials ∷ xs) ys a b c p q = faults_pass_then xs ys a b c p q
 faults_pass_then (Drew words ∷ xs) ys a b c p q = faults_pass_then xs ys a b c p q
 faults_pass_then (Called shard call reply ∷ xs) ys a b c p q = faults_pass_then xs ys a b c p q
 
@@ -74,13 +75,17 @@ files_then u v w xs ys p q = record {
 -- ---- the table and its source of words
 
 pub table_none : (u : TableState) → TablePassed u u []
-table_none u = record { drawn = Adds_none u.drawn; later = later_none u.faults; calls = grows_none u.seat }
+table_none u = record { drawn = Adds_none u.drawn; later = later_none u.faults; calls = grows_none u.seat; within = All-nil (λ (made : Made). made.shard < u.seat.shards) }
 
 pub table_then : (u v w : TableState) (xs ys : List Event) → TablePassed u v xs → TablePassed v w ys → TablePassed u w (xs ++ ys)
 table_then u v w xs ys p q = record {
   drawn = subst (λ (l : List (List ℕ)). Adds u.drawn w.drawn l) (sym (words_in-append xs ys)) (Adds_trans u.drawn v.drawn w.drawn (words_in xs) (words_in ys) p.drawn q.drawn);
   later = later_trans u.faults v.faults w.faults p.later q.later;
   calls = subst (λ (l : List Made). Grows u.seat w.seat l) (sym (calls_in-append xs ys)) (grows_then p.calls q.calls);
+  within =
+      let later = subst (λ (n : ℕ). All (λ (made : Made). made.shard < n) (calls_in ys)) p.calls.same.shards q.within in
+      subst (λ (l : List Made). All (λ (made : Made). made.shard < u.seat.shards) l) (sym (calls_in-append xs ys))
+      (All-append (λ (made : Made). made.shard < u.seat.shards) (calls_in xs) (calls_in ys) p.within later);
 }
 
 -- ---- the whole

@@ -4,4 +4,6 @@ pub mod Events
 pub mod Outside
 pub mod Serving
 pub mod Deciding
+pub mod Carrying
 pub mod Laws
+pub mod Admissions

@@ -39,6 +39,12 @@ table_state drawn faults seat w t = record { drawn = drawn w; faults = faults w;
 abbrev pub outside_of : FilesState → TableState → Outside
 outside_of files table = record { files = files; table = table }
 
+-- the whole outside, by what files, a source of words and a seat tell
+abbrev pub outside_at : {F W T : Type 0} → (F → Option Contents) → (F → Option (List (List ℕ × Ending))) → (F → ℕ)
+    → (W → Option (List (List ℕ))) → (W → ℕ) → (T → Seat) → F → W → T → Outside
+outside_at contents asked file_faults drawn word_faults seat f w t =
+    outside_of (files_state contents asked file_faults f) (table_state drawn word_faults seat w t)
+
 -- Files passed through exactly these events.
 pub record FilesPassed (u v : FilesState) (events : List Event) : Type 0 where
   pub contents : ContentsPass events u.contents v.contents
@@ -46,11 +52,12 @@ pub record FilesPassed (u v : FilesState) (events : List Event) : Type 0 where
   pub faults : FaultsPass events u.faults v.faults
   pub later : u.faults ≤ v.faults
 
--- So did a source of words and a seat.
+-- So did a source of words and a seat. The calls were of the table's shards.
 pub record TablePassed (u v : TableState) (events : List Event) : Type 0 where
   pub drawn : Adds u.drawn v.drawn (words_in events)
   pub later : u.faults ≤ v.faults
   pub calls : Grows u.seat v.seat (calls_in events)
+  pub within : All (λ made. made.shard < u.seat.shards) (calls_in events)
 
 -- Between two moments exactly these events came.
 pub record Passed (u v : Outside) (events : List Event) : Type 0 where
@@ -61,4 +68,5 @@ pub record Passed (u v : Outside) (events : List Event) : Type 0 where
 -- A draw that lacks its words has raised the count of faults. A call that lacks its reply went to a shard that notes the limit.
 abbrev pub LackedBy : TableState → TableState → Lack → Operation → Type 0
 LackedBy u v Random operation = (operation ≡ Draw) × Rose u.faults v.faults
-LackedBy u v (Worn calls) operation = (shard : ℕ) × (call : Call) × (operation ≡ CallTable shard call) × (shard < u.seat.shards) × (v.seat.noted shard ≡ calls) × (calls ≡ u.seat.limit)
+LackedBy u v (Worn calls) operation = (shard : ℕ) × (call : Call) × (operation ≡ CallTable shard call) × (shard < u.seat.shards)
+    × (v.seat.noted shard ≡ calls) × (calls ≡ u.seat.limit)

@@ -5,7 +5,7 @@ use Rattle.auth_grammar.specs.declared.items.Item.{Item}
 use Rattle.auth_grammar.specs.declared.items.Quoting.TheVariants as quoting
 use Rattle.auth_decide.specs.Infos.{info_of}
 use Rattle.auth_decide.specs.Paths.{path_of}
-use Rattle.auth_decide.specs.declared.verdict.Proof.{Proof}
+use Rattle.auth_decide.specs.declared.info.Proof.{Proof}
 use Rattle.auth_decide.specs.declared.verdict.Verdict.{Verdict}
 use Rattle.auth_decide.specs.declared.verdict.Verdict.TheVariants.{Admit, Open, Challenge, Bad}
 use Rattle.auth_io.specs.declared.files.FileAnswer.{FileAnswer}
@@ -24,9 +24,9 @@ use Rattle.origin_core.specs.declared.plan.Plan.{Plan}
 use Rattle.origin_core.specs.declared.plan.Plan.TheVariants.{Refuse, Read, Replace}
 use Rattle.origin_core.specs.declared.plan.Refusal.{Refusal}
 use Rattle.origin_core.specs.declared.plan.Refusal.TheVariants.{Bad as BadForm, Challenged, Forbidden, NotFound, NotAllowed}
-use Rattle.origin_core.specs.declared.received.Received.{Received}
+use Rattle.origin_core.specs.declared.incoming.IncomingRequest.{IncomingRequest}
 
-abbrev pub incoming_of : Received → Incoming
+abbrev pub incoming_of : IncomingRequest → Incoming
 incoming_of r = record { request = r.request.now; last = r.last; moment = r.moment }
 
 -- the method of a request, whose case matters

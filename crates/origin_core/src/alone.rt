@@ -2,10 +2,10 @@
 ghost use Rattle.std.specs.Prelude.{◌≡◌, ◌≢◌, ◌≤◌, ℕ, []};
 ghost use Rattle.auth_io.specs.Causes.{Rose};
 ghost use Rattle.connection_loop.specs.Account.{link_of};
-ghost use Rattle.connection_loop.specs.Results.{ServesSession};
 ghost use Rattle.nonce_shard.specs.Journal.{seat_of};
-ghost use Rattle.origin_core.specs.Outside.{Passed, LackedBy, files_state, table_state, outside_of};
-ghost use Rattle.origin_core.specs.Serving.{origin, setting};
+ghost use Rattle.origin_core.specs.Admissions.{ServesConnection};
+ghost use Rattle.origin_core.specs.Outside.{outside_at};
+ghost use Rattle.origin_core.specs.Serving.{server};
 
 use crate::serving::serve_connection;
 use auth_decide::Site;
@@ -29,13 +29,11 @@ pub fn serve_alone<L: Link, F: Files, C: Clock, W: Words>(
     site: &Site,
 ) -> Result<Served, ServeError>
     requires new { table.old.calls ≡ [] }
-    requires room { 12288 ≤ table.old.limit }
-    ensures session { let link_at = link_of L.left L.given L.written L.reads in
-        let files_at = files_state F.contents F.asked F.faults in
-        let table_at = table_state W.drawn W.faults seat_of in
-        ServesSession origin (LackedBy (table_at random.old table.old) (table_at random.new table.new))
-        (Passed (outside_of (files_at files.old) (table_at random.old table.old)) (outside_of (files_at files.new) (table_at random.new table.new)))
-        (link_at link.old) (link_at link.new) (C.shown clock.old) (C.shown clock.new) (setting site.now 1) (setting site.now 1) result }
+    requires room { CONNECTION_CALLS ≤ table.old.limit }
+    ensures serves { let link_at = link_of L.left L.given L.written L.reads in
+        let at = outside_at F.contents F.asked F.faults W.drawn W.faults seat_of in
+        ServesConnection (at files.old random.old table.old) (at files.new random.new table.new) (link_at link.old) (link_at link.new)
+        (C.shown clock.old) (C.shown clock.new) (server site.now 1) result }
     ensures never_worn { (calls : ℕ) → result ≢ Err (ServeError.Worn calls) }
     ensures read_fault { result ≡ Err ServeError.ReadFault → Rose (L.read_faults link.old) (L.read_faults link.new) }
     ensures write_fault { result ≡ Err ServeError.WriteFault → Rose (L.write_faults link.old) (L.write_faults link.new) }

@@ -1,10 +1,13 @@
 //! The decision for a request, with the calls that it asks for.
-ghost use Rattle.origin_core.specs.Deciding.{Decides};
-ghost use Rattle.origin_core.specs.Outside.{table_state};
+ghost use Rattle.std.specs.Prelude.{◌≡◌};
+ghost use Rattle.connection_loop.specs.Machine.{Incoming};
+ghost use Rattle.origin_core.specs.Deciding.{Decides, IsUnderWay};
+ghost use Rattle.origin_core.specs.Outside.{TableState, table_state};
 ghost use Rattle.origin_core.specs.Replies.{incoming_of};
-ghost use Rattle.origin_core.specs.Serving.{setting};
+ghost use Rattle.origin_core.specs.Serving.{server};
+ghost use Rattle.origin_core.specs.declared.server.Server.{Server};
 
-use crate::received::Received;
+use crate::incoming::IncomingRequest;
 use auth_decide::{Ask, Decision, Site, Verdict};
 use auth_grammar::Role;
 use auth_io::Words;
@@ -12,27 +15,48 @@ use connection_loop::{Lack, RespondError};
 use nonce_shard::TableSeat;
 use std::alloc::Global;
 
-/// Makes the calls that the decision asks for, one after the other, and gives its verdict.
+/// Decides on a request.
 pub(crate) fn decide<W: Words, T: TableSeat>(
     alloc: Global,
-    received: &Received<'_>,
+    incoming: &IncomingRequest<'_>,
     site: &Site,
     random: &mut W,
     seat: &mut T,
 ) -> Result<Verdict, RespondError>
-    ensures decided { let at = table_state W.drawn W.faults T.seat in Decides (at random.old seat.old) (at random.new seat.new) (setting site.now (T.seat seat.old).shards) (incoming_of received.now) result }
+    ensures decided { let at = table_state W.drawn W.faults T.seat in
+        Decides (at random.old seat.old) (at random.new seat.new) (server site.now (T.seat seat.old).shards)
+        (incoming_of incoming.now) result }
 {
     let shards = seat.shards();
-    let Ok(mut decision) = Decision::start(
+    match Decision::start(
         alloc,
         Role::Origin,
-        received.request,
-        received.moment,
+        incoming.request,
+        incoming.moment,
         site,
         shards,
-    ) else {
-        return Err(RespondError::OutOfMemory);
-    };
+    ) {
+        Ok(mut decision) => {
+            let verdict = run(alloc, &mut decision, random, seat);
+            drop(decision);
+            verdict
+        }
+        Err(_) => Err(RespondError::OutOfMemory),
+    }
+}
+
+/// Makes the calls that the decision asks for, one after the other, and gives its verdict.
+fn run<W: Words, T: TableSeat>(
+    alloc: Global,
+    decision: &mut Decision<'_>,
+    random: &mut W,
+    seat: &mut T,
+) -> Result<Verdict, RespondError>
+    requires { (T.seat seat.old).shards ≡ decision.old.question.shards }
+    ensures decided { let at = table_state W.drawn W.faults T.seat in
+        (before : TableState) (s : Server) (incoming : Incoming) → IsUnderWay before (at random.old seat.old) s incoming decision.old
+        → Decides before (at random.new seat.new) s incoming result }
+{
     loop {
         match decision.next(alloc) {
             Ok(Ask::Verdict(verdict)) => return Ok(verdict),
@@ -43,7 +67,7 @@ pub(crate) fn decide<W: Words, T: TableSeat>(
                 decision.answer_words(&words);
             }
             Ok(Ask::Table { shard, call }) => match seat.call(shard, &call) {
-                Ok(reply) => decision.answer(reply),
+                Ok(reply) => decision.answer(&reply),
                 Err(worn) => {
                     return Err(RespondError::Lacking(Lack::Worn { calls: worn.calls }));
                 }

@@ -5,21 +5,21 @@ mod alone;
 mod carrying;
 mod deciding;
 mod events;
+mod incoming;
 mod method;
 mod names;
 mod plan;
-mod received;
 mod replies;
+mod server;
 mod serving;
-mod setting;
 
 pub use alone::{CONNECTION_CALLS, serve_alone};
-pub use carrying::reply_for;
+pub use carrying::{FILE_LIMIT, reply_for};
 pub use events::{Event, Operation};
+pub use incoming::IncomingRequest;
 pub use names::file_name;
-pub use received::Received;
+pub use server::Server;
 pub use serving::serve_connection;
-pub use setting::Setting;
 
 #[cfg(test)]
 mod tests;

@@ -2,8 +2,8 @@
 ghost use Rattle.std.specs.Prelude.{◌≡◌, ◌++◌, ◌∷◌, [], ◌≤◌, IfOk, OnOk, map};
 ghost use Rattle.origin_core.specs.Replies.{pair, item_line, info_line, allow_line, verdict_lines, allow_lines, is_admitted, sent_body, reply_with, status_reply, incoming_of};
 
+use crate::incoming::IncomingRequest;
 use crate::method::Method;
-use crate::received::Received;
 use auth_decide::{Proof, Verdict};
 use auth_grammar::{Item, ItemList, Octets, OutOfMemory, Quoting, write_items, write_params};
 use connection_loop::Response;
@@ -112,27 +112,27 @@ fn sent_body(to_head: bool, body: &[u8]) -> &[u8]
 /// A reply with a body.
 pub(crate) fn reply_with(
     alloc: Global,
-    received: &Received<'_>,
+    incoming: &IncomingRequest<'_>,
     verdict: Verdict,
     status: u16,
     body: Octets,
 ) -> Result<Response, OutOfMemory>
     requires low { 200 ≤ status }
     requires high { status ≤ 599 }
-    ensures { IfOk result (λ response. response ≡ reply_with (incoming_of received.now) verdict status body) }
+    ensures { IfOk result (λ response. response ≡ reply_with (incoming_of incoming.now) verdict status body) }
 {
-    let to_head = Method::of(received.request.method.bytes()).is_head();
+    let to_head = Method::of(incoming.request.method.bytes()).is_head();
     let admitted = is_admitted(&verdict);
     let mut lines = PairList::new(alloc);
     put_allow(alloc, &mut lines, status)?;
     put_verdict(alloc, &mut lines, verdict, sent_body(to_head, body.bytes()))?;
     let answer = Answer {
         status,
-        moment: received.moment,
+        moment: incoming.moment,
         lines,
         body,
         to_head,
-        close: received.last,
+        close: incoming.last,
     };
     let text = write_answer(alloc, &answer)?;
     Ok(Response { text, admitted })
@@ -141,14 +141,14 @@ pub(crate) fn reply_with(
 /// A reply that tells its status.
 pub(crate) fn status_reply(
     alloc: Global,
-    received: &Received<'_>,
+    incoming: &IncomingRequest<'_>,
     verdict: Verdict,
     status: u16,
 ) -> Result<Response, OutOfMemory>
     requires low { 200 ≤ status }
     requires high { status ≤ 599 }
-    ensures { IfOk result (λ response. response ≡ status_reply (incoming_of received.now) verdict status) }
+    ensures { IfOk result (λ response. response ≡ status_reply (incoming_of incoming.now) verdict status) }
 {
     let body = status_body(alloc, status)?;
-    reply_with(alloc, received, verdict, status, body)
+    reply_with(alloc, incoming, verdict, status, body)
 }

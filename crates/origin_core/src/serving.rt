@@ -3,17 +3,17 @@ ghost use Rattle.std.specs.Prelude.{◌≡◌, List};
 ghost use Rattle.auth_io.specs.Causes.{Rose};
 ghost use Rattle.connection_loop.specs.Account.{link_of};
 ghost use Rattle.connection_loop.specs.Machine.{Responds};
-ghost use Rattle.connection_loop.specs.Results.{ServesSession};
-ghost use Rattle.origin_core.specs.Outside.{Passed, LackedBy, files_state, table_state, outside_of};
+ghost use Rattle.origin_core.specs.Admissions.{ServesConnection};
+ghost use Rattle.origin_core.specs.Outside.{Passed, LackedBy, outside_at};
 ghost use Rattle.origin_core.specs.Replies.{incoming_of};
-ghost use Rattle.origin_core.specs.Serving.{origin, setting};
+ghost use Rattle.origin_core.specs.Serving.{origin, server};
 ghost use Rattle.origin_core.specs.declared.events.Event.{Event};
 
 use crate::carrying::reply_for;
 use crate::deciding::decide;
 use crate::events::{Event, Operation};
-use crate::received::Received;
-use crate::setting::Setting;
+use crate::incoming::IncomingRequest;
+use crate::server::Server;
 use auth_decide::Site;
 use auth_io::{Clock, Files, Link, Words};
 use connection_loop::{RespondError, Responder, Response, ServeError, Served, drive};
@@ -24,21 +24,20 @@ use std::alloc::Global;
 /// Decides on a request and answers it.
 fn answer<F: Files, W: Words, T: TableSeat>(
     alloc: Global,
-    received: &Received<'_>,
+    incoming: &IncomingRequest<'_>,
     site: &Site,
     files: &mut F,
     random: &mut W,
     seat: &mut T,
 ) -> Result<Response, RespondError>
-    ensures answers { let files_at = files_state F.contents F.asked F.faults in
-        let table_at = table_state W.drawn W.faults T.seat in
-        let setting_now = setting site.now (T.seat seat.old).shards in
-        (events : List Event)
-        × Passed (outside_of (files_at files.old) (table_at random.old seat.old)) (outside_of (files_at files.new) (table_at random.new seat.new)) events
-        × Responds origin (LackedBy (table_at random.old seat.old) (table_at random.new seat.new)) setting_now setting_now (incoming_of received.now) events result }
+    ensures answers { let at = outside_at F.contents F.asked F.faults W.drawn W.faults T.seat in
+        let server_now = server site.now (T.seat seat.old).shards in
+        (events : List Event) × Passed (at files.old random.old seat.old) (at files.new random.new seat.new) events
+        × Responds origin (LackedBy (at files.old random.old seat.old).table (at files.new random.new seat.new).table)
+        server_now server_now (incoming_of incoming.now) events result }
 {
-    let verdict = decide(alloc, received, site, random, seat)?;
-    match reply_for(alloc, received, site.root.bytes(), verdict, files) {
+    let verdict = decide(alloc, incoming, site, random, seat)?;
+    match reply_for(alloc, incoming, site.root.bytes(), verdict, files) {
         Ok(response) => Ok(response),
         Err(_) => Err(RespondError::OutOfMemory),
     }
@@ -57,11 +56,11 @@ impl<'s, 'f, 'w, 't, F: Files, W: Words, T: TableSeat> Responder
     for Parts<'s, 'f, 'w, 't, F, W, T> {
     ghost use Rattle.std.specs.Prelude.{◌≡◌};
     ghost use Rattle.std.proofs.Common.{refl, ◌∙◌};
-    ghost use Rattle.origin_core.specs.Outside.{Passed, LackedBy, files_state, table_state, outside_of};
-    ghost use Rattle.origin_core.specs.Serving.{origin, setting};
+    ghost use Rattle.origin_core.specs.Outside.{Passed, LackedBy, outside_at};
+    ghost use Rattle.origin_core.specs.Serving.{origin, server};
     ghost use Rattle.origin_core.specs.Laws.{passed_none, passed_then, lacked_later};
 
-    type State = Setting;
+    type State = Server;
 
     type Ask = Operation;
 
@@ -69,13 +68,15 @@ impl<'s, 'f, 'w, 't, F: Files, W: Words, T: TableSeat> Responder
 
     ghost machine = { origin };
 
-    ghost state = { λ p. setting p.site.now (T.seat p.seat.now).shards };
+    ghost state = { λ p. server p.site.now (T.seat p.seat.now).shards };
 
-    ghost passed = { λ a b events. let files_at = files_state F.contents F.asked F.faults in
-        let table_at = table_state W.drawn W.faults T.seat in
-        ((b.site.now ≡ a.site.now) × (b.files.ghost_name ≡ a.files.ghost_name) × (b.random.ghost_name ≡ a.random.ghost_name) × (b.seat.ghost_name ≡ a.seat.ghost_name)) × Passed (outside_of (files_at a.files.now) (table_at a.random.now a.seat.now)) (outside_of (files_at b.files.now) (table_at b.random.now b.seat.now)) events };
+    ghost passed = { λ a b events. let at = outside_at F.contents F.asked F.faults W.drawn W.faults T.seat in
+        ((b.site.now ≡ a.site.now) × (b.files.ghost_name ≡ a.files.ghost_name)
+        × (b.random.ghost_name ≡ a.random.ghost_name) × (b.seat.ghost_name ≡ a.seat.ghost_name))
+        × Passed (at a.files.now a.random.now a.seat.now) (at b.files.now b.random.now b.seat.now) events };
 
-    ghost lacked = { λ a b. let table_at = table_state W.drawn W.faults T.seat in LackedBy (table_at a.random.now a.seat.now) (table_at b.random.now b.seat.now) };
+    ghost lacked = { λ a b. let at = outside_at F.contents F.asked F.faults W.drawn W.faults T.seat in
+        LackedBy (at a.files.now a.random.now a.seat.now).table (at b.files.now b.random.now b.seat.now).table };
 
     fn respond(
         &mut self,
@@ -84,14 +85,14 @@ impl<'s, 'f, 'w, 't, F: Files, W: Words, T: TableSeat> Responder
         last: bool,
         moment: u64,
     ) -> Result<Response, RespondError> {
-        let received = Received {
+        let incoming = IncomingRequest {
             request,
             last,
             moment,
         };
         answer(
             alloc,
-            &received,
+            &incoming,
             self.site,
             self.files,
             self.random,
@@ -99,20 +100,34 @@ impl<'s, 'f, 'w, 't, F: Files, W: Words, T: TableSeat> Responder
         )
     }
 
-    ghost passed_none = { λ a. ((refl, refl, refl, refl), passed_none (outside_of (files_state F.contents F.asked F.faults a.files.now) (table_state W.drawn W.faults T.seat a.random.now a.seat.now))) };
+    ghost passed_none = { λ a. let at = outside_at F.contents F.asked F.faults W.drawn W.faults T.seat in
+        ((refl, refl, refl, refl), passed_none (at a.files.now a.random.now a.seat.now)) };
 
-    ghost passed_join = { λ a b c xs ys p q. let files_at = files_state F.contents F.asked F.faults in
-        let table_at = table_state W.drawn W.faults T.seat in
-        ((q.0.0 ∙ p.0.0, q.0.1 ∙ p.0.1, q.0.2 ∙ p.0.2, q.0.3 ∙ p.0.3), passed_then (outside_of (files_at a.files.now) (table_at a.random.now a.seat.now)) (outside_of (files_at b.files.now) (table_at b.random.now b.seat.now)) (outside_of (files_at c.files.now) (table_at c.random.now c.seat.now)) xs ys p.1 q.1) };
+    ghost passed_join = { λ a b c xs ys p q. let at = outside_at F.contents F.asked F.faults W.drawn W.faults T.seat in (
+      (q.0.0 ∙ p.0.0, q.0.1 ∙ p.0.1, q.0.2 ∙ p.0.2, q.0.3 ∙ p.0.3),
+      passed_then (at a.files.now a.random.now a.seat.now) (at b.files.now b.random.now b.seat.now)
+          (at c.files.now c.random.now c.seat.now) xs ys p.1 q.1,
+    ) };
 
-    ghost lacked_later = { λ a b c xs p. let table_at = table_state W.drawn W.faults T.seat in
-        lacked_later (table_at a.random.now a.seat.now) (table_at b.random.now b.seat.now) (table_at c.random.now c.seat.now) xs p.1.table };
+    ghost lacked_later = { λ a b c xs p. let at = outside_at F.contents F.asked F.faults W.drawn W.faults T.seat in
+        lacked_later (at a.files.now a.random.now a.seat.now).table (at b.files.now b.random.now b.seat.now).table
+        (at c.files.now c.random.now c.seat.now).table xs p.1.table };
 }
 
 /// Serves one connection to its end, or to the message that ends it. Each request is answered as the decision on
-/// it says, by a file of the site where it is admitted or needs no user. A file has at most 16,777,216 bytes.
+/// it says, by a file of the site where it is admitted or needs no user.
 ///
 /// `RandomFault` comes where the random source failed, and `Worn` where a shard of the table takes no more calls.
+/// All other errors are those of `connection_loop::drive`.
+///
+/// ```text
+/// let mut table = JournalTable::open(alloc, CONNECTION_CALLS, &Sizes::single())?;
+/// match serve_connection(alloc, &mut link, &mut files, &mut clock, &mut random, &mut table, &site) {
+///     Ok(served) => log(served.requests, served.admitted),
+///     Err(ServeError::Worn { calls }) => reopen(calls),
+///     Err(error) => report(error),
+/// }
+/// ```
 pub fn serve_connection<L: Link, F: Files, C: Clock, W: Words, T: TableSeat>(
     alloc: Global,
     link: &mut L,
@@ -122,14 +137,11 @@ pub fn serve_connection<L: Link, F: Files, C: Clock, W: Words, T: TableSeat>(
     seat: &mut T,
     site: &Site,
 ) -> Result<Served, ServeError>
-    // What was read, written, shown and done is what the session over the input has, and nothing is left over.
-    ensures session { let link_at = link_of L.left L.given L.written L.reads in
-        let files_at = files_state F.contents F.asked F.faults in
-        let table_at = table_state W.drawn W.faults T.seat in
-        let setting_now = setting site.now (T.seat seat.old).shards in
-        ServesSession origin (LackedBy (table_at random.old seat.old) (table_at random.new seat.new))
-        (Passed (outside_of (files_at files.old) (table_at random.old seat.old)) (outside_of (files_at files.new) (table_at random.new seat.new)))
-        (link_at link.old) (link_at link.new) (C.shown clock.old) (C.shown clock.new) setting_now setting_now result }
+    // What was read, written, shown and done is what the session over the input has, and who is admitted deserved it.
+    ensures serves { let link_at = link_of L.left L.given L.written L.reads in
+        let at = outside_at F.contents F.asked F.faults W.drawn W.faults T.seat in
+        ServesConnection (at files.old random.old seat.old) (at files.new random.new seat.new) (link_at link.old) (link_at link.new)
+        (C.shown clock.old) (C.shown clock.new) (server site.now (T.seat seat.old).shards) result }
 
     // No fault is answered without its cause.
     ensures read_fault { result ≡ Err ServeError.ReadFault → Rose (L.read_faults link.old) (L.read_faults link.new) }

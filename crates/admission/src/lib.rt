@@ -1,0 +1,8 @@
+//! Who is admitted: laws of the decision, of the nonce table and of what a request's lines say.
+//!
+//! They speak of definitions, and the functions do nothing.
+#![tactic(auto)]
+
+mod laws;
+
+pub use laws::{admits_exactly, admits_no_other, reads_one_way};
