@@ -1,0 +1,4 @@
+pub mod Chaining
+pub mod Steps
+pub mod Worst
+pub mod Places
