@@ -1,0 +1,116 @@
+-- Attributes: what they hold, and how far they go on.
+use Rattle.std.proofs.Common.{◌≡◌, ◌≢◌, ◌==◌, ◌+◌, ℕ, Bool, true, false, List, [], ◌∷◌, ◌++◌, refl, sym, ◌∙◌, ap, subst, inl, inr, arith}
+use Rattle.std.specs.List.{flat_map, list_all, list_any}
+use Rattle.auth_grammar.specs.Plain.{is_printable}
+use Rattle.scram_text.specs.Bytes.{HasNoComma, escape, escaped, is_letter, some_of}
+use Rattle.scram_text.specs.Contents.{Holds, WritesName, has_letter, is_of}
+use Rattle.scram_text.specs.Parts.{IsAttribute, IsWith, LedBy}
+use Rattle.scram_text.specs.Reaching.{Halts, Reaches}
+use Rattle.scram_text.specs.declared.attribute.Attribute.{Attribute}
+use Rattle.scram_text.specs.declared.attribute.Attribute.TheVariants.{Name, Nonce, Extension}
+use Rattle.scram_text.specs.declared.runs.Class.{Class}
+use Rattle.scram_text.specs.declared.runs.Class.TheVariants.{Nonce as NonceByte, Value as ValueByte, Symbol}
+use Rattle.scram_text.proofs.NameBytes.{Written, written, comma, equals, itself}
+use Rattle.scram_text.proofs.PartLaws.{led_on, led_off, no_comma_cons, no_comma_join}
+use Rattle.scram_text.proofs.ByteTests.{both, same_or_not, some_all}
+
+-- a letter and a content that each attribute may have
+pub letter_of : (a : Attribute) → (b : ℕ) × (has_letter a b ≡ true)
+letter_of Name = (110, refl)
+letter_of Nonce = (114, refl)
+letter_of Extension = (97, refl)
+
+pub word_of : (a : Attribute) → (w : List ℕ) × Holds a w
+word_of Name = (97 ∷ [], (97 ∷ [], record { plain = refl; written = refl }))
+word_of Nonce = (97 ∷ [], refl)
+word_of Extension = (97 ∷ [], refl)
+
+pub attribute_of : (a : Attribute) → (w : List ℕ) × IsAttribute a w
+attribute_of a = (
+  (letter_of a).0 ∷ 61 ∷ (word_of a).0,
+  record {
+    first = (letter_of a).0;
+    more = 61 ∷ (word_of a).0;
+    cut = refl;
+    leads = (letter_of a).1;
+    follows = record { first = 61; more = (word_of a).0; cut = refl; leads = refl; follows = (word_of a).1 };
+  },
+)
+
+-- a byte that each class has
+pub class_word : (c : Class) → is_of c 97 ≡ true
+class_word NonceByte = refl
+class_word ValueByte = refl
+class_word Symbol = refl
+
+-- the bytes of a class are no commas
+class_whole : (c : Class) (b : ℕ) → is_of c b ≡ true → b ≢ 44
+class_whole NonceByte b passes is = let e : is_of NonceByte 44 ≡ true = subst (λ (x : ℕ). is_of NonceByte x ≡ true) is passes in cc
+class_whole ValueByte b passes is = let e : is_of ValueByte 44 ≡ true = subst (λ (x : ℕ). is_of ValueByte x ≡ true) is passes in cc
+class_whole Symbol b passes is =
+    let e : is_of Symbol 44 ≡ true = subst (λ (x : ℕ). is_of Symbol x ≡ true) is passes in cc
+
+run_whole : (c : Class) (text : List ℕ) → list_all (is_of c) text ≡ true → HasNoComma text
+run_whole c [] all = refl
+run_whole c (b ∷ text) all =
+    let parts = both (is_of c b) (list_all (is_of c) text) all in
+    no_comma_cons b text (class_whole c b parts.0) (run_whole c text parts.1)
+
+-- nor is a byte of a written name
+escape_whole : (b : ℕ) → HasNoComma (escape b)
+escape_whole b = elim (written b) [
+  | comma is e ↦ rw e refl
+  | equals is e ↦ rw e refl
+  | itself not44 not61 e ↦ rw e (no_comma_cons b [] not44 refl)
+]
+
+name_whole : (name : List ℕ) → HasNoComma (escaped name)
+name_whole [] = refl
+name_whole (b ∷ name) = no_comma_join (escape b) (escaped name) (escape_whole b) (name_whole name)
+
+pub content_whole : (a : Attribute) (text : List ℕ) → Holds a text → HasNoComma text
+content_whole Name text holds = subst HasNoComma (sym holds.1.written) (name_whole holds.0)
+content_whole Nonce text holds = run_whole NonceByte text (some_all (is_of NonceByte) text holds)
+content_whole Extension text holds = run_whole ValueByte text (some_all (is_of ValueByte) text holds)
+
+letter_whole : (a : Attribute) (b : ℕ) → has_letter a b ≡ true → b ≢ 44
+letter_whole Name b has is = let e : has_letter Name 44 ≡ true = subst (λ (x : ℕ). has_letter Name x ≡ true) is has in cc
+letter_whole Nonce b has is = let e : has_letter Nonce 44 ≡ true = subst (λ (x : ℕ). has_letter Nonce x ≡ true) is has in cc
+letter_whole Extension b has is = let e : has_letter Extension 44 ≡ true = subst (λ (x : ℕ). has_letter Extension x ≡ true) is has in cc
+
+-- no comma stands in an attribute
+pub attribute_whole : (a : Attribute) (part : List ℕ) → IsAttribute a part → HasNoComma part
+attribute_whole a part is =
+    let equals = is.follows in
+    let sign : (61 == 44) ≡ false = refl in
+    let rest : HasNoComma is.more = subst HasNoComma (sym equals.cut) (no_comma_cons equals.first equals.more (λ e. let f : (44 == 61) ≡ true = subst (λ (x : ℕ). (x == 61) ≡ true) e equals.leads in cc) (content_whole a equals.more equals.follows)) in
+    subst HasNoComma (sym is.cut) (no_comma_cons is.first is.more (letter_whole a is.first is.leads) rest)
+
+pub with_is : (a : Attribute) (part content : List ℕ) → IsWith a part content → IsAttribute a part
+with_is a part content is = record { first = is.letter; more = 61 ∷ content; cut = is.cut; leads = is.has; follows = record { first = 61; more = content; cut = refl; leads = refl; follows = is.holds } }
+
+-- how far a part goes on: behind the sign, to the sign, not at all
+pub goes_behind : (a : Attribute) (part more content : List ℕ) (letter at : ℕ) → part ≡ letter ∷ more → has_letter a letter ≡ true → more ≡ 61 ∷ content → Reaches (Holds a) content at
+    → Reaches (IsAttribute a) part (2 + at)
+goes_behind a part more content letter at cut has sign reach =
+    let P : List ℕ → Type 0 = λ t. Reaches (IsAttribute a) t (2 + at) in
+    subst P (sym (cut ∙ ap (λ (w : List ℕ). letter ∷ w) sign))
+    (let Q : ℕ → Type 0 = λ n. Reaches (IsAttribute a) (letter ∷ 61 ∷ content) n in
+    subst Q (let e : 1 + (1 + at) ≡ 2 + at = omega arith in e)
+    (led_on (has_letter a) (LedBy (λ b. b == 61) (Holds a)) letter (61 ∷ content) (1 + at) has (led_on (λ b. b == 61) (Holds a) 61 content at refl reach)))
+
+pub goes_to_sign : (a : Attribute) (part more : List ℕ) (letter : ℕ) → part ≡ letter ∷ more → has_letter a letter ≡ true → ((content : List ℕ) → more ≡ 61 ∷ content → ⊥)
+    → Reaches (IsAttribute a) part 1
+goes_to_sign a part more letter cut has no_sign =
+    let P : List ℕ → Type 0 = λ t. Reaches (IsAttribute a) t 1 in
+    subst P (sym cut)
+    (led_on (has_letter a) (LedBy (λ b. b == 61) (Holds a)) letter more 0 has (led_off (λ b. b == 61) (Holds a) 61 (word_of a).0 refl (word_of a).1 more (λ b left is. other b left is)))
+  where
+    other : (b : ℕ) (left : List ℕ) → more ≡ b ∷ left → (b == 61) ≡ false
+    other b left is = elim (same_or_not b 61) [
+      | inl same ↦ absurd (no_sign left (is ∙ ap (λ (x : ℕ). x ∷ left) same.0))
+      | inr differs ↦ differs.1
+    ]
+
+pub goes_nowhere : (a : Attribute) (part : List ℕ) → ((b : ℕ) (left : List ℕ) → part ≡ b ∷ left → has_letter a b ≡ false) → Reaches (IsAttribute a) part 0
+goes_nowhere a part none = led_off (has_letter a) (LedBy (λ b. b == 61) (Holds a)) (letter_of a).0 (61 ∷ (word_of a).0) (letter_of a).1 (record { first = 61; more = (word_of a).0; cut = refl; leads = refl; follows = (word_of a).1 }) part none

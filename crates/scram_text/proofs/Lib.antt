@@ -1,0 +1,11 @@
+pub mod ByteTests
+pub mod NameBytes
+pub mod WrittenNames
+pub mod RunLaws
+pub mod PartLaws
+pub mod AttributeLaws
+pub mod ExtensionLaws
+pub mod FormLaws
+pub mod ClientFirstLaws
+pub mod ClientFirstUnique
+pub mod ReauthLaws

@@ -1,0 +1,36 @@
+-- The bytes of names, nonces and values (RFC 5802 section 7).
+use Rattle.std.specs.Prelude.{◌≡◌, ℕ, Bool, ◌==◌, ◌&&◌, ◌||◌, not, nat_le, List, [], ◌∷◌, false, if◌then◌else◌}
+use Rattle.std.specs.Char.{is_ascii_digit}
+use Rattle.std.specs.List.{flat_map, list_all, list_any}
+use Rattle.auth_grammar.specs.Plain.{is_printable}
+
+-- one byte or more, all of which pass the test
+abbrev pub some_of : (ℕ → Bool) → List ℕ → Bool
+some_of test [] = false
+some_of test (b ∷ more) = test b && list_all test more
+
+-- no comma stands in it
+abbrev pub HasNoComma : List ℕ → Type 0
+HasNoComma text = list_any (λ b. b == 44) text ≡ false
+
+-- printable, neither a space nor a comma
+abbrev pub is_nonce_byte : ℕ → Bool
+is_nonce_byte b = (nat_le 33 b && nat_le b 126) && not (b == 44)
+
+-- neither NUL nor a comma
+abbrev pub is_value_byte : ℕ → Bool
+is_value_byte b = not (b == 0) && not (b == 44)
+
+abbrev pub is_letter : ℕ → Bool
+is_letter b = (nat_le 65 b && nat_le b 90) || (nat_le 97 b && nat_le b 122)
+
+-- a byte of a name as it is written: a comma as =2C, an equals sign as =3D
+abbrev pub escape : ℕ → List ℕ
+escape b = if b == 44 then 61 ∷ 50 ∷ 67 ∷ [] else (if b == 61 then 61 ∷ 51 ∷ 68 ∷ [] else b ∷ [])
+
+abbrev pub escaped : List ℕ → List ℕ
+escaped name = flat_map escape name
+
+-- a base64 character other than the padding
+abbrev pub is_symbol : ℕ → Bool
+is_symbol b = is_letter b || is_ascii_digit b || (b == 43) || (b == 47)
