@@ -1,14 +1,15 @@
 -- What `pipe` does: it reads a site, and serves one connection by it.
 use Rattle.std.specs.Prelude.{◌≡◌, ◌≢◌, ◌⊎◌, ℕ, List, [], Result, Ok, Err}
 use Rattle.auth_decide.specs.declared.site.Site.{Site}
-use Rattle.connection_loop.specs.Results.{ServesSession}
 use Rattle.connection_loop.specs.declared.served.ServeError.{ServeError}
 use Rattle.connection_loop.specs.declared.served.ServeError.TheVariants as error
 use Rattle.connection_loop.specs.declared.served.Served.{Served}
 use Rattle.nonce_shard.specs.Journal.{Journal, seat_of}
 use Rattle.nonce_shard.specs.Sizes.{single_sizes}
-use Rattle.origin_core.specs.Outside.{LackedBy, Outside, Passed, outside_of, table_state}
-use Rattle.origin_core.specs.Serving.{origin, setting}
+use Rattle.origin_core.specs.Admissions.{ServesConnection}
+use Rattle.origin_core.specs.Outside.{Outside, outside_of, table_state}
+use Rattle.origin_core.specs.Serving.{server}
+use Rattle.origin_core.specs.declared.alone.TheConstants.{CONNECTION_CALLS}
 use Rattle.authd.specs.Causes.{serve_failure}
 use Rattle.authd.specs.Endings.{Ending}
 use Rattle.authd.specs.Loading.{LoadsSite}
@@ -16,18 +17,18 @@ use Rattle.authd.specs.Outside.{Objects, Views, objects}
 use Rattle.authd.specs.declared.failure.Failure.{Failure}
 use Rattle.authd.specs.declared.failure.Failure.TheVariants as failure
 
--- a table of one shard that takes 12,288 calls, which is three for each of 4,096 requests
+-- a table of one shard that takes as many calls as a connection can make
 abbrev pub fresh_table : Journal
-fresh_table = record { sizes = single_sizes; limit = 12288; calls = [] }
+fresh_table = record { sizes = single_sizes; limit = CONNECTION_CALLS; calls = [] }
 
 abbrev pub outside_at : {L F C W : Type 0} → Views L F C W → Objects L F C W → Journal → Outside
 outside_at v o table = outside_of (v.files o.files) (table_state v.drawn v.word_faults seat_of o.random table)
 
--- What was read, written, shown, drawn, called and done with files is the session of the site, with this table of its own.
+-- The site is served, with this table of its own: what was read, written, shown, drawn, called and done with files is its session,
+-- and each request in it that was answered was admitted exactly where it was to be.
 abbrev pub ServesBy : {L F C W : Type 0} → Views L F C W → Site → Objects L F C W → Objects L F C W → Journal → Journal → Result Served ServeError → Type 0
 ServesBy v site before now table table' served =
-    ServesSession origin (LackedBy (outside_at v before table).table (outside_at v now table').table) (Passed (outside_at v before table) (outside_at v now table'))
-    (v.link before.link) (v.link now.link) (v.shown before.clock) (v.shown now.clock) (setting site 1) (setting site 1) served
+    ServesConnection (outside_at v before table) (outside_at v now table') (v.link before.link) (v.link now.link) (v.shown before.clock) (v.shown now.clock) (server site 1) served
 
 abbrev pub ending_of : Result Served ServeError → Ending
 ending_of (Ok served) = Ok tt

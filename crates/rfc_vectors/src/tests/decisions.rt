@@ -1,9 +1,9 @@
 //! What each kind of request asks of the random source and of the nonce table, and how it ends. The secret and the
 //! responses are those of Python's `hashlib`.
-ghost use Rattle.std.specs.Prelude.{IfOk};
+ghost use Rattle.std.specs.Prelude.{◌≡◌, IfOk};
 ghost use Rattle.nonce_shard.specs.Replies.{CanAnswer};
 
-use auth_decide::{Ask, Decision, Site, Verdict};
+use auth_decide::{Ask, Decision, NEXT_NONCE_USES, Proof, Site, Verdict};
 use auth_grammar::{Item, ItemList, Octets, Rest, Role, value_of};
 use cred_store::Store;
 use http_wire::{Next, Request, RequestFeed};
@@ -26,6 +26,8 @@ fn spaces_text() -> &'static [u8] {
 #[derive(Clone, Copy)]
 enum Held {
     Fresh,
+    /// Fresh, after so many uses that the next nonce is offered.
+    FreshLate,
     Gone,
     Behind,
     Repeated,
@@ -52,6 +54,7 @@ another nonce | /a | Fresh | draw issue challenge 1 stale | Authorization: Diges
 a wrong response | /a | Fresh | draw issue challenge 1 | Authorization: Digest username="Mufasa", realm="http-auth@example.org", uri="/a", algorithm=SHA-256, nonce="AQAAAAAAAAAAAAAAAAAAAAAAAAAAAAAAAAAA", nc=00000001, cnonce="0a4f113b", qop=auth, response="0000000000000000000000000000000000000000000000000000000000000000"
 a wrong response where credentials are optional | /opt | Fresh | draw issue challenge 1 | Authorization: Digest username="Mufasa", realm="http-auth@example.org", uri="/opt", algorithm=SHA-256, nonce="AQAAAAAAAAAAAAAAAAAAAAAAAAAAAAAAAAAA", nc=00000001, cnonce="0a4f113b", qop=auth, response="0000000000000000000000000000000000000000000000000000000000000000"
 a fresh count | /a | Fresh | use admit Mufasa | Authorization: Digest username="Mufasa", realm="http-auth@example.org", uri="/a", algorithm=SHA-256, nonce="AQAAAAAAAAAAAAAAAAAAAAAAAAAAAAAAAAAA", nc=00000001, cnonce="0a4f113b", qop=auth, response="264b353664843e6f239f284670e4815b30d676e986a49df91362b5391f991e42"
+a fresh count of a nonce that was used often | /a | FreshLate | use draw issue admit Mufasa next | Authorization: Digest username="Mufasa", realm="http-auth@example.org", uri="/a", algorithm=SHA-256, nonce="AQAAAAAAAAAAAAAAAAAAAAAAAAAAAAAAAAAA", nc=00000001, cnonce="0a4f113b", qop=auth, response="264b353664843e6f239f284670e4815b30d676e986a49df91362b5391f991e42"
 a nonce that is gone | /a | Gone | use draw issue challenge 1 stale | Authorization: Digest username="Mufasa", realm="http-auth@example.org", uri="/a", algorithm=SHA-256, nonce="AQAAAAAAAAAAAAAAAAAAAAAAAAAAAAAAAAAA", nc=00000001, cnonce="0a4f113b", qop=auth, response="264b353664843e6f239f284670e4815b30d676e986a49df91362b5391f991e42"
 a count behind | /a | Behind | use draw issue challenge 1 stale | Authorization: Digest username="Mufasa", realm="http-auth@example.org", uri="/a", algorithm=SHA-256, nonce="AQAAAAAAAAAAAAAAAAAAAAAAAAAAAAAAAAAA", nc=00000001, cnonce="0a4f113b", qop=auth, response="264b353664843e6f239f284670e4815b30d676e986a49df91362b5391f991e42"
 a repeated count | /a | Repeated | use draw issue challenge 1 stale | Authorization: Digest username="Mufasa", realm="http-auth@example.org", uri="/a", algorithm=SHA-256, nonce="AQAAAAAAAAAAAAAAAAAAAAAAAAAAAAAAAAAA", nc=00000001, cnonce="0a4f113b", qop=auth, response="264b353664843e6f239f284670e4815b30d676e986a49df91362b5391f991e42"
@@ -62,6 +65,7 @@ a session whose nonce is gone | /sess | Unheld | peek draw issue challenge 1 sta
 impl Held {
     fn named(name: &str) -> Held {
         match name {
+            "FreshLate" => Held::FreshLate,
             "Gone" => Held::Gone,
             "Behind" => Held::Behind,
             "Repeated" => Held::Repeated,
@@ -92,6 +96,12 @@ fn request_of(alloc: Global, target: &str, lines: &str) -> Result<Request, Fail>
     }
 }
 
+fn fresh(uses: u32) -> Reply
+    ensures { result ≡ Reply.Fresh uses }
+{
+    Reply::Fresh { uses }
+}
+
 /// The reply to a call, and its name. A decision on Digest makes no other calls.
 fn answered(call: &Call, held: Held) -> Result<(Reply, &'static str), Fail>
     ensures { IfOk result (λ answer. CanAnswer answer.0 call.now.what) }
@@ -100,7 +110,8 @@ fn answered(call: &Call, held: Held) -> Result<(Reply, &'static str), Fail>
         (What::Issue { .. }, _) => Ok((Reply::Issued { serial: 0 }, " issue")),
         (What::Peek { .. }, Held::Unheld) => Ok((Reply::Gone, " peek")),
         (What::Peek { .. }, _) => Ok((Reply::Prime { prime: None }, " peek")),
-        (What::Use { .. }, Held::Fresh) => Ok((Reply::Fresh, " use")),
+        (What::Use { .. }, Held::Fresh) => Ok((fresh(NEXT_NONCE_USES - 1), " use")),
+        (What::Use { .. }, Held::FreshLate) => Ok((fresh(NEXT_NONCE_USES), " use")),
         (What::Use { .. }, Held::Behind) => Ok((Reply::Behind { high: 200 }, " use")),
         (What::Use { .. }, Held::Repeated) => Ok((Reply::Repeated, " use")),
         (What::Use { .. }, Held::OtherSession) => Ok((Reply::OtherSession, " use")),
@@ -127,9 +138,13 @@ fn tell_items(told: &mut String, name: &str, items: &ItemList) -> Result<(), Fai
 
 fn tell_verdict(told: &mut String, verdict: &Verdict) -> Result<(), Fail> {
     match verdict {
-        Verdict::Admit { user, .. } => {
+        Verdict::Admit { user, proof } => {
             told.push_str(" admit ")?;
             told.push_str(str::from_utf8(user.bytes())?)?;
+            let Proof::Digest { next, .. } = proof;
+            if next.is_some() {
+                told.push_str(" next")?;
+            }
             Ok(())
         }
         Verdict::Open { items } => tell_items(told, "open", items),
@@ -151,7 +166,7 @@ fn told(alloc: Global, site: &Site, request: &Request, held: Held) -> Result<Str
             Ask::Table { call, .. } => {
                 let (reply, name) = answered(&call, held)?;
                 told.push_str(name)?;
-                decision.answer(reply);
+                decision.answer(&reply);
             }
             Ask::Verdict(verdict) => {
                 tell_verdict(&mut told, &verdict)?;
