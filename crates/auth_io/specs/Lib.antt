@@ -6,5 +6,6 @@ pub mod Scripts
 pub mod Files
 pub mod Plans
 pub mod Handing
+pub mod Dialling
 pub mod Memory
 pub mod Accepting

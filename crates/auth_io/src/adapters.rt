@@ -3,12 +3,14 @@
 
 mod clock;
 mod counts;
+mod dial;
 mod files;
 mod link;
 mod tcp;
 mod words;
 
 pub use clock::SystemClock;
+pub use dial::TcpDial;
 pub use files::DiskFiles;
 pub use link::StdLink;
 pub use tcp::{TcpAccept, TcpLink};

@@ -6,6 +6,7 @@
 
 mod accept;
 mod clock;
+mod dial;
 mod files;
 mod link;
 mod schedule;
@@ -16,6 +17,7 @@ mod words;
 
 pub use accept::MemAccept;
 pub use clock::MemClock;
+pub use dial::MemDial;
 pub use files::MemFiles;
 pub use link::{MemLink, SureLink};
 pub use streams::{MemSink, MemSource};

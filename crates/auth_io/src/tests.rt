@@ -1,7 +1,8 @@
 //! What no clause says: which calls the forms in memory fail, and that the adapters reach the real things.
 use crate::{
-    Accept, Clock, DiskFiles, FileAnswer, Files, Link, MemClock, MemFiles, MemLink, MemWords,
-    OsWords, Replaced, StdLink, SystemClock, TcpAccept, TcpLink, Words, Wrote,
+    Accept, Clock, Dial, DialFault, DiskFiles, FileAnswer, Files, Link, MemClock, MemDial,
+    MemFiles, MemLink, MemWords, OsWords, Replaced, StdLink, SystemClock, TcpAccept, TcpDial,
+    TcpLink, Words, Wrote,
 };
 use auth_grammar::Octets;
 use std::alloc::Global;
@@ -166,5 +167,65 @@ fn connections_over_tcp_end_with_their_reply_though_input_is_left(
     check_gives(&rt, &mut second, Some(b""));
     first.close();
     second.close();
+    Ok(())
+}
+
+/// One dial fails or connects, and then a connection gives these bytes first and takes a reply.
+fn check_dials<D: Dial>(rt: &impl Abort, dial: &mut D, authority: &[u8], wanted: Option<&[u8]>) {
+    match dial.dial(authority) {
+        Ok(mut link) => {
+            assert_eq!(rt; link.write(b"xyz"), Wrote::Taken(3));
+            check_gives(rt, &mut link, wanted);
+            dial.done(link);
+        }
+        Err(fault) => {
+            assert_eq!(rt; fault, DialFault::Failed);
+            assert!(rt; wanted.is_none());
+        }
+    }
+}
+
+#[test]
+fn dials_in_memory_connect_in_order_and_fail_when_told(rt: HostRuntime) -> Result<(), Fail> {
+    let alloc = rt.alloc();
+    let left = Octets::of(alloc, b"abc")?;
+    let link = MemLink::new(
+        alloc,
+        left,
+        Vec::new(alloc),
+        Vec::new(alloc),
+        Vec::new(alloc),
+        Vec::new(alloc),
+        4,
+    )?;
+    let mut dial = MemDial::new(alloc, vec![in alloc; link]?, vec![in alloc; 1]?)?;
+    check_dials(&rt, &mut dial, b"a", None);
+    check_dials(&rt, &mut dial, b"b:8080", Some(b"abc"));
+    // no connection is left
+    check_dials(&rt, &mut dial, b"c", None);
+    let told: [(&[u8], bool); 3] = [(b"a", true), (b"b:8080", false), (b"c", true)];
+    for ((authority, failed), (wanted, fails)) in dial.dialled().iter().zip(told) {
+        assert_eq!(rt; authority.bytes(), wanted);
+        assert_eq!(rt; *failed, fails);
+    }
+    assert_eq!(rt; (dial.dialled().len(), dial.ended().len()), (3, 1));
+    Ok(())
+}
+
+#[test]
+fn dials_over_tcp_reach_a_listening_socket_and_nobody_else(rt: HostRuntime) -> Result<(), Fail> {
+    let alloc = rt.alloc();
+    let listener = TcpListener::bind(&rt, "127.0.0.1:0")?;
+    let authority = format!(in alloc; "127.0.0.1:{}", listener.local_addr()?.port())?;
+    let mut dial = TcpDial::new(&rt);
+    let Ok(mut link) = dial.dial(authority.as_bytes()) else {
+        panic!(rt; "no connection");
+    };
+    assert_eq!(rt; link.write(b"abcdefgh"), Wrote::Taken(8));
+    check_serves(&rt, &mut TcpAccept::new(&listener), b"abcdefgh", b"xyz");
+    check_gives(&rt, &mut link, Some(b"xyz"));
+    dial.done(link);
+    check_dials(&rt, &mut dial, b"127.0.0.1:70000", None);
+    check_dials(&rt, &mut dial, b"\xFF", None);
     Ok(())
 }

@@ -34,6 +34,8 @@ pub struct TcpLink<S> {
 }
 
 impl<S: Read + Write + OpenStream + Drop> TcpLink<S> {
+    ghost use Rattle.auth_io.specs.Handing.{has_fault};
+
     /// An error is the stream's, which refused an option of its socket: the peer may be gone.
     pub fn new(stream: S) -> std::io::Result<TcpLink<S>>
         ensures given { IfOk result (λ link. ⟦<TcpLink<S> as Link>⟧.given link ≡ 0) }
@@ -49,6 +51,13 @@ impl<S: Read + Write + OpenStream + Drop> TcpLink<S> {
             counts: Counts::new(),
             over: false,
         })
+    }
+
+    /// Whether a read or a write of it has failed.
+    pub(crate) fn has_fault(&self) -> bool
+        ensures { result ≡ has_fault self.now.counts.read_faults self.now.counts.write_faults }
+    {
+        self.counts.has_fault()
     }
 
     /// Closes the connection. A system that closes a socket with unread input resets the connection, and the peer may
@@ -192,7 +201,7 @@ where
     }
 
     fn done(&mut self, link: TcpLink<L::Stream>) {
-        if link.counts.has_fault() {
+        if link.has_fault() {
             self.link_faults = self.link_faults.saturating_add(1);
         }
         link.close();

@@ -1,0 +1,104 @@
+//! Connections that are made over TCP.
+ghost use Rattle.std.specs.Prelude.{◌≡◌, IfSome};
+
+use crate::adapters::tcp::TcpLink;
+use crate::dial::{Dial, DialFault};
+use crate::stream::Link;
+use std::net::{HostAddrs, Net, SocketAddr, TcpStream, ToSocketAddrs};
+use std::time::Duration;
+
+/// The port of an authority that spells none (RFC 9110 section 4.2.1).
+pub const DEFAULT_PORT: u16 = 80;
+
+/// How many addresses of a host are tried.
+pub const CONNECT_TRIES: usize = 3;
+
+/// How many seconds each of them has to answer, so that a dial takes at most 30.
+pub const CONNECT_SECONDS: u64 = 10;
+
+/// Makes connections to authorities, whose hosts are looked up by the system.
+#[derive(Drop)]
+pub struct TcpDial<'r, R> {
+    net: &'r R,
+    faults: u64,
+    link_faults: u64,
+}
+
+impl<'r, R> TcpDial<'r, R> {
+    pub fn new(net: &'r R) -> TcpDial<'r, R>
+        ensures faults { result.faults ≡ 0 }
+        ensures link_faults { result.link_faults ≡ 0 }
+    {
+        TcpDial {
+            net,
+            faults: 0,
+            link_faults: 0,
+        }
+    }
+}
+
+/// The addresses of an authority.
+fn addresses_of<R: Net>(net: &R, authority: &str) -> Option<HostAddrs> {
+    match authority.rsplit_once(':') {
+        Some((host, port)) => (host, port.parse::<u16>().ok()?).to_socket_addrs(net).ok(),
+        None => (authority, DEFAULT_PORT).to_socket_addrs(net).ok(),
+    }
+}
+
+fn connect_to<R: Net>(net: &R, address: &SocketAddr) -> Option<TcpLink<R::Stream>>
+    ensures read_faults { IfSome result (λ link. ⟦<TcpLink<R::Stream> as Link>⟧.read_faults link ≡ 0) }
+    ensures write_faults { IfSome result (λ link. ⟦<TcpLink<R::Stream> as Link>⟧.write_faults link ≡ 0) }
+{
+    let limit = Duration::from_secs(CONNECT_SECONDS);
+    match TcpStream::connect_timeout(net, address, limit) {
+        Ok(stream) => TcpLink::new(stream).ok(),
+        Err(_) => None,
+    }
+}
+
+/// A connection to the first address of this authority that answers, or None.
+fn connect<R: Net>(net: &R, authority: &[u8]) -> Option<TcpLink<R::Stream>>
+    ensures read_faults { IfSome result (λ link. ⟦<TcpLink<R::Stream> as Link>⟧.read_faults link ≡ 0) }
+    ensures write_faults { IfSome result (λ link. ⟦<TcpLink<R::Stream> as Link>⟧.write_faults link ≡ 0) }
+{
+    let text = str::from_utf8(authority).ok()?;
+    for address in addresses_of(net, text)?.take(CONNECT_TRIES) {
+        if let Some(link) = connect_to(net, &address) {
+            return Some(link);
+        }
+    }
+    None
+}
+
+impl<'r, R: Net> Dial for TcpDial<'r, R> {
+    ghost use Rattle.std.specs.Prelude.{None};
+
+    type Out = TcpLink<R::Stream>;
+
+    ghost dialled = { λ _. None };
+
+    ghost coming = { λ _. None };
+
+    ghost handed = { λ _. None };
+
+    ghost faults = { λ s. s.faults };
+
+    ghost link_faults = { λ s. s.link_faults };
+
+    fn dial(&mut self, authority: &[u8]) -> Result<TcpLink<R::Stream>, DialFault> {
+        match connect(self.net, authority) {
+            Some(link) => Ok(link),
+            None => {
+                self.faults = self.faults.saturating_add(1);
+                Err(DialFault::Failed)
+            }
+        }
+    }
+
+    fn done(&mut self, link: TcpLink<R::Stream>) {
+        if link.has_fault() {
+            self.link_faults = self.link_faults.saturating_add(1);
+        }
+        link.close();
+    }
+}
