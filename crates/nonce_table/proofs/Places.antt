@@ -68,34 +68,33 @@ module _ {A : Type 0} where
   map_set {B} f (x ∷ xs) zero p q e h = ap (λ (y : B). y ∷ map f xs) (h ∙ ap f (sym (some_is x p e)))
   map_set {B} f (x ∷ xs) (suc i) p q e h = ap (λ (l : List B). f x ∷ l) (map_set f xs i p q e h)
 
-  -- ---- a list whose first elements have become others
-
-  pub turned_here : (f : A → A) (o : List A) (s : ℕ) → slice_get (map f (take s o) ++ drop s o) s ≡ slice_get o s
-  turned_here f [] zero = refl
-  turned_here f [] (suc s) = refl
-  turned_here f (x ∷ xs) zero = refl
-  turned_here f (x ∷ xs) (suc s) = turned_here f xs s
-
-  turned_next : (f : A → A) (o : List A) (s : ℕ) (p : A) → slice_get o s ≡ Some p → set (map f (take s o) ++ drop s o) s (f p) ≡ map f (take (suc s) o) ++ drop (suc s) o
-  turned_next f [] zero p e = absurd (cc)
-  turned_next f [] (suc s) p e = absurd (cc)
-  turned_next f (x ∷ xs) zero p e = ap (λ (y : A). f y ∷ xs) (sym (some_is x p e))
-  turned_next f (x ∷ xs) (suc s) p e = ap (λ (l : List A). f x ∷ l) (turned_next f xs s p e)
-
   made_next : {B : Type 0} (f : A → B) (o : List A) (s : ℕ) (p : A) → slice_get o s ≡ Some p → map f (take s o) ++ f p ∷ [] ≡ map f (take (suc s) o)
   made_next f [] zero p e = absurd (cc)
   made_next f [] (suc s) p e = absurd (cc)
   made_next f (x ∷ xs) zero p e = ap (λ (y : A). f y ∷ []) (sym (some_is x p e))
   made_next {B} f (x ∷ xs) (suc s) p e = ap (λ (l : List B). f x ∷ l) (made_next f xs s p e)
 
-  pub turned_long : (f : A → A) (o : List A) (s : ℕ) → length (map f (take s o) ++ drop s o) ≡ length o
-  turned_long f [] zero = refl
-  turned_long f [] (suc s) = refl
-  turned_long f (x ∷ xs) zero = refl
-  turned_long f (x ∷ xs) (suc s) = ap suc (turned_long f xs s)
-
-  pub turned_step : (f : A → A) (o : List A) (s : ℕ) (p : A) → slice_get o s ≡ Some p → set (map f (take s o) ++ drop s o) s (f p) ≡ map f (take (s + 1) o) ++ drop (s + 1) o
-  turned_step f o s p e = subst (λ (k : ℕ). set (map f (take s o) ++ drop s o) s (f p) ≡ map f (take k o) ++ drop k o) (sym (add-one s)) (turned_next f o s p e)
-
   pub made_step : {B : Type 0} (f : A → B) (o : List A) (s : ℕ) (p : A) → slice_get o s ≡ Some p → map f (take s o) ++ f p ∷ [] ≡ map f (take (s + 1) o)
   made_step f o s p e = subst (λ (k : ℕ). map f (take s o) ++ f p ∷ [] ≡ map f (take k o)) (sym (add-one s)) (made_next f o s p e)
+
+-- ---- a list made of another, its first elements in one way and the others in another
+
+module _ {A B : Type 0} (f g : A → B) where
+  pub turned_here : (o : List A) (s : ℕ) (p : A) → slice_get o s ≡ Some p → slice_get (map f (take s o) ++ map g (drop s o)) s ≡ Some (g p)
+  turned_here [] s p e = absurd (cc)
+  turned_here (x ∷ xs) zero p e = ap (λ (y : A). Some (g y)) (some_is x p e)
+  turned_here (x ∷ xs) (suc s) p e = turned_here xs s p e
+
+  turned_next : (o : List A) (s : ℕ) (p : A) → slice_get o s ≡ Some p → set (map f (take s o) ++ map g (drop s o)) s (f p) ≡ map f (take (suc s) o) ++ map g (drop (suc s) o)
+  turned_next [] s p e = absurd (cc)
+  turned_next (x ∷ xs) zero p e = ap (λ (y : A). f y ∷ map g xs) (sym (some_is x p e))
+  turned_next (x ∷ xs) (suc s) p e = ap (λ (l : List B). f x ∷ l) (turned_next xs s p e)
+
+  pub turned_step : (o : List A) (s : ℕ) (p : A) → slice_get o s ≡ Some p → set (map f (take s o) ++ map g (drop s o)) s (f p) ≡ map f (take (s + 1) o) ++ map g (drop (s + 1) o)
+  turned_step o s p e = subst (λ (k : ℕ). set (map f (take s o) ++ map g (drop s o)) s (f p) ≡ map f (take k o) ++ map g (drop k o)) (sym (add-one s)) (turned_next o s p e)
+
+  pub turned_long : (o : List A) (s : ℕ) → length (map f (take s o) ++ map g (drop s o)) ≡ length o
+  turned_long [] zero = refl
+  turned_long [] (suc s) = refl
+  turned_long (x ∷ xs) zero = ap suc (length_map g xs)
+  turned_long (x ∷ xs) (suc s) = ap suc (turned_long xs s)

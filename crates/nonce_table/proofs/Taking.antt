@@ -1,5 +1,5 @@
 -- A loop that takes the elements of a list one by one.
-use Rattle.std.proofs.Common.{◌≡◌, ℕ, ◌+◌, ◌<◌, List, [], ◌∷◌, ◌++◌, length, Some, sym, refl, ap, ◌∙◌, append_assoc, append-nil, length-append, arith}
+use Rattle.std.proofs.Common.{◌≡◌, ℕ, zero, suc, ◌+◌, ◌<◌, List, [], ◌∷◌, ◌++◌, drop, length, Some, sym, refl, ap, ◌∙◌, append_assoc, append-nil, length-append, arith}
 use Rattle.std.specs.List.{slice_get}
 
 -- of all elements these were taken, and this rest, of so many, is to come
@@ -31,3 +31,10 @@ module _ {A : Type 0} where
       let a : length (taken ++ rest) ≡ length all = ap length t.items in
       let b : length rest ≡ length (x ∷ more) = ap length e in
       let c : length (taken ++ rest) ≡ length taken + length rest = length-append taken rest in omega arith
+
+  -- the next element of the rest of a list
+  pub next_dropped : (all : List A) (n : ℕ) (x : A) (more : List A) → drop n all ≡ x ∷ more → (slice_get all n ≡ Some x) × (more ≡ drop (suc n) all)
+  next_dropped [] zero x more e = absurd (cc)
+  next_dropped [] (suc n) x more e = absurd (cc)
+  next_dropped (y ∷ ys) zero x more e = let first : y ≡ x = cc in let rest : more ≡ ys = cc in (ap Some first, rest)
+  next_dropped (y ∷ ys) (suc n) x more e = next_dropped ys n x more e

@@ -1,23 +1,23 @@
 -- The histories with which a table closes, and their totals.
 use Rattle.std.specs.Prelude.{◌≡◌, ℕ, ◌<◌, ◌≤◌, All, Contains, Some, List, [], ◌∷◌, ◌++◌, max, map, length, fold, sum_by, slice_get}
+use Rattle.nonce_shard.specs.declared.calls.Call.{Call}
 use Rattle.nonce_shard.specs.declared.sizes.Sizes.{Sizes}
+use Rattle.nonce_shard.specs.declared.sizes.Setting.{Setting}
 use Rattle.nonce_shard.specs.declared.totals.Totals.{Totals}
 use Rattle.nonce_shard.specs.Seat.{Entry, calls_of}
 use Rattle.nonce_shard.specs.Shard.{totals_after}
 use Rattle.turn_table.specs.History.{GrownByOthers, longer}
 use Rattle.turn_table.specs.Lists.{Each}
+use Rattle.turn_table.specs.Passes.{PassFacts}
 use Rattle.nonce_table.specs.declared.closing.Closed.{Closed}
 use Rattle.nonce_table.specs.Passes.{TablePassFacts, seat_of}
-use Rattle.nonce_table.specs.Shards.{ShardFacts}
 
--- a shard after the join of a pass, of which this is the part
-abbrev pub joined_at : ℕ → ShardFacts → TablePassFacts → ShardFacts
-joined_at s x pass = record x {
-  opening = record (x.opening) {
-    seen = longer x.opening.seen ((seat_of pass).seen s);
-    kept = x.opening.kept ++ (pass.owner, (seat_of pass).seen s) ∷ [];
-    noted = max x.opening.noted ((seat_of pass).noted s);
-  };
+-- the opening pass to a shard after the join of a pass, of which this is the part
+abbrev pub joined_at : ℕ → PassFacts Call Setting → TablePassFacts → PassFacts Call Setting
+joined_at s opening pass = record opening {
+  seen = longer opening.seen ((seat_of pass).seen s);
+  kept = opening.kept ++ (pass.owner, (seat_of pass).seen s) ∷ [];
+  noted = max opening.noted ((seat_of pass).noted s);
 }
 
 -- the longest list that one of the passes has seen of a shard; with no pass it is empty

@@ -28,9 +28,14 @@ mod object;
 mod pass;
 mod shard;
 mod table;
+mod turns;
 
 pub use closing::{Closed, PassesKept};
 pub use desk::TableDesk;
 pub use object::TableObject;
 pub use pass::TablePass;
 pub use table::{MOST_PASSES, NonceTable};
+pub use turns::Turns;
+
+#[cfg(test)]
+mod tests;

@@ -5,9 +5,11 @@ ghost use Rattle.nonce_shard.specs.Seat.{Grows, IsWorn};
 ghost use Rattle.nonce_shard.specs.declared.calls.Call.{Call};
 ghost use Rattle.nonce_shard.specs.declared.sizes.Setting.{Setting};
 ghost use Rattle.turn_table.specs.Passes.{PassFacts};
-ghost use Rattle.nonce_table.specs.Passes.{name_of, facts_of, seat_of, ArePassesOf, AnswersAt, IsWornAt};
+ghost use Rattle.nonce_table.specs.Passes.{facts_of, seat_of, ArePassesOf, AnswersAt, IsWornAt};
+ghost use Rattle.nonce_table.specs.Tables.{IsAt};
 
 use crate::object::{InTurn, TableObject};
+use crate::turns::Turns;
 use nonce_shard::{Call, Reply, Shard, Sizes, Worn};
 use std::marker::Model;
 use std::sync::Wait;
@@ -53,23 +55,24 @@ impl<T: TableObject> TablePass<T> {
         self.sizes.shards
     }
 
-    /// Makes a call on a shard, whose turns these are.
+    /// Makes a call on a shard of its table, whose turns these are.
     pub(crate) fn call<R: Wait>(
         &mut self,
         rt: &R,
-        turns: &TurnTable<InTurn<T>>,
+        turns: &Turns<T>,
         shard: u16,
         call: &Call,
     ) -> Result<Reply, Worn>
         requires in_range { shard < self.old.sizes.shards }
-        requires of { slice_get self.old.table shard ≡ Some (name_of turns.now.id) }
+        requires of { IsAt turns.now self.old }
         requires fits { Fits call.now.what }
         ensures ok { IfOk result (λ reply. Grows (seat_of self.old) (seat_of self.new) (record { shard = shard; call = call.now; reply = reply } ∷ [])) }
         ensures worn { IfErr result (λ w. IsWorn (seat_of self.old) (seat_of self.new) shard w.calls) }
         ensures table { self.new.table ≡ self.old.table }
         ensures sizes { self.new.sizes ≡ self.old.sizes }
     {
-        call_on(rt, turns, &mut self.passes, shard as usize, call)
+        let passes = &mut self.passes;
+        call_on(rt, turns.at(shard), passes, shard as usize, call)
     }
 
     /// Its passes to the shards, in their order.

@@ -1,20 +1,19 @@
 //! A table that makes passes.
-ghost use Rattle.std.specs.Prelude.{◌≡◌, ◌≢◌, ◌+◌, ◌<◌, ◌≤◌, ◌↔◌, ℕ, All, Some, [], IfOk, IfErr, OnOk, OnErr, IsErr, length, map, slice_get, vec_capacity};
+ghost use Rattle.std.specs.Prelude.{◌≡◌, ◌≢◌, ◌+◌, ◌<◌, ◌≤◌, ◌↔◌, ℕ, All, Some, [], IfOk, IfErr, OnOk, OnErr, IsErr, length, slice_get, vec_capacity};
 ghost use Rattle.nonce_shard.specs.Sizes.{AreValid};
-ghost use Rattle.turn_table.specs.Passes.{next_pass};
-ghost use Rattle.nonce_table.specs.Passes.{TablePassFacts, name_of};
-ghost use Rattle.nonce_table.specs.Shards.{ShardFacts, split_shard};
-ghost use Rattle.nonce_table.specs.Tables.{IsOf, AreShards, new_pass};
+ghost use Rattle.nonce_table.specs.Passes.{TablePassFacts};
+ghost use Rattle.nonce_table.specs.Tables.{IsOf, AreShards, names_of, new_pass};
 ghost use Rattle.nonce_table.specs.Closing.{history_of, IsClosingHistory, CountsHistories};
 
-use crate::closing::{Closed, PassesKept, close_shards, join_pass};
+use crate::closing::{Closed, PassesKept};
 use crate::object::{InTurn, TableObject};
 use crate::pass::TablePass;
-use crate::shard::SharedShard;
+use crate::shard::open_shard;
+use crate::turns::Turns;
 use nonce_shard::{OutOfMemory, Shard, Sizes};
 use std::alloc::{AllocError, Global};
 use std::marker::Model;
-use turn_table::{Pass, TurnTable};
+use turn_table::Pass;
 
 /// The most passes that one table makes.
 pub const MOST_PASSES: u32 = 4096;
@@ -23,7 +22,8 @@ pub const MOST_PASSES: u32 = 4096;
 #[derive(Drop)]
 pub struct NonceTable<T: TableObject = Shard> {
     sizes: Sizes,
-    shards: Vec<SharedShard<T>>,
+    turns: Turns<T>,
+    openings: Vec<Pass<InTurn<T>>>,
     made: u32,
 }
 
@@ -32,9 +32,9 @@ impl<T: TableObject> Model for NonceTable<T> {
 
     ghost Value = { NonceTableFacts };
 
-    ghost view = { λ t. table_facts t.sizes t.shards.items t.made };
+    ghost view = { λ t. table_facts t.sizes t.turns t.made };
 
-    ghost invariant = { λ t. AreShards t.sizes t.made t.shards.items };
+    ghost invariant = { λ t. AreShards t.sizes t.made t.turns t.openings.items };
 }
 
 impl NonceTable {
@@ -45,38 +45,27 @@ impl NonceTable {
         ensures made { IfOk result (λ t. t.made ≡ 0) }
     {
         let mut shards = Vec::with_capacity(alloc, sizes.shards as usize)?;
+        let mut openings = Vec::with_capacity(alloc, sizes.shards as usize)?;
         for number in 0..sizes.shards {
-            let shard = Shard::open(alloc, number, sizes)?;
-            shards.push_reserved(SharedShard::open(alloc, shard)?);
+            let (turns, opening) = open_shard(alloc, Shard::open(alloc, number, sizes)?)?;
+            shards.push_reserved(turns);
+            openings.push_reserved(opening);
         }
         Ok(NonceTable {
             sizes: *sizes,
-            shards,
+            turns: Turns::of(shards),
+            openings,
             made: 0,
         })
     }
 }
 
 impl<T: TableObject> NonceTable<T> {
-    /// A table of these shards, which have answered nothing.
-    #[cfg(test)]
-    pub(crate) fn of(sizes: &Sizes, shards: Vec<SharedShard<T>>) -> NonceTable<T>
-        requires { AreShards sizes.now 0 shards.items }
-        ensures { (result.sizes ≡ sizes.now) × (result.made ≡ 0) }
+    /// The turns of its shards, which threads may share.
+    pub fn turns(&self) -> &Turns<T>
+        ensures { names_of result.now ≡ self.now.names }
     {
-        NonceTable {
-            sizes: *sizes,
-            shards,
-            made: 0,
-        }
-    }
-
-    /// The turns of a shard.
-    pub(crate) fn turns(&self, shard: u16) -> &TurnTable<InTurn<T>>
-        requires { shard < self.now.sizes.shards }
-        ensures { slice_get self.now.names shard ≡ Some (name_of result.now.id) }
-    {
-        &self.shards[shard as usize].turns
+        &self.turns
     }
 
     /// The next passes: the first of a table has the owner 1, and each the next number.
@@ -88,8 +77,7 @@ impl<T: TableObject> NonceTable<T> {
         ensures table { OnOk result (self.new ≡ record (self.old) { made = self.old.made + n }) }
         ensures refused { OnErr result (self.new ≡ self.old) }
     {
-        let shards = self.shards.len();
-        let rooms = reserve(alloc, n, shards)?;
+        let rooms = reserve(alloc, n, self.openings.len())?;
         let mut passes = Vec::with_capacity(alloc, n as usize)?;
         for room in rooms {
             passes.push_reserved(self.next_pass(room));
@@ -104,7 +92,7 @@ impl<T: TableObject> NonceTable<T> {
         ensures pass { result ≡ new_pass self.old (self.old.made + 1) }
         ensures table { self.new ≡ record (self.old) { made = self.old.made + 1 } }
     {
-        let passes = split_all(&mut self.shards, room);
+        let passes = self.turns.split_all(self.made, &mut self.openings, room);
         self.made += 1;
         TablePass::of(self.made as u64, &self.sizes, passes)
     }
@@ -131,13 +119,14 @@ impl<T: TableObject> NonceTable<T> {
         }
         let NonceTable {
             sizes: _,
-            mut shards,
+            turns,
+            mut openings,
             made: _,
         } = self;
         for pass in passes {
-            join_pass(&mut shards, pass);
+            turns.join(&mut openings, pass);
         }
-        Ok(close_shards(shards))
+        Ok(turns.close(openings))
     }
 }
 
@@ -151,21 +140,4 @@ fn reserve<P: Drop>(alloc: Global, n: u32, shards: usize) -> Result<Vec<Vec<P>>,
         rooms.push_reserved(Vec::with_capacity(alloc, shards)?);
     }
     Ok(rooms)
-}
-
-/// Splits a pass of each shard.
-fn split_all<T: TableObject>(
-    shards: &mut Vec<SharedShard<T>>,
-    room: Vec<Pass<InTurn<T>>>,
-) -> Vec<Pass<InTurn<T>>>
-    requires room { (room.items ≡ []) × (length shards.old.items ≤ vec_capacity room) }
-    requires few { (s : ℕ) (x : ShardFacts) → slice_get shards.old.items s ≡ Some x → x.opening.made < MOST_PASSES }
-    ensures shards { shards.new.items ≡ map split_shard shards.old.items }
-    ensures passes { result.items ≡ map (λ x. next_pass x.opening) shards.old.items }
-{
-    let mut passes = room;
-    for s in 0..shards.len() {
-        passes.push_reserved(shards[s].split());
-    }
-    passes
 }
