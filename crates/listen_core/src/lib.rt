@@ -3,9 +3,11 @@
 #![tactic(auto)]
 
 mod server;
+mod shared;
 mod workers;
 
 pub use server::OriginServer;
+pub use shared::serve_shared;
 pub use workers::{Worker, serve_workers};
 
 #[cfg(test)]
