@@ -1,5 +1,5 @@
 -- A seat of passes grows as its passes do.
-use Rattle.std.proofs.Common.{◌≡◌, ◌≢◌, ℕ, ◌≤◌, Bool, eq-eqb, ne_eqb, List, [], ◌∷◌, ◌++◌, length, map, set, Option, Some, None, sym, refl, ap, ◌∙◌, subst, append_assoc, append-nil, arith}
+use Rattle.std.proofs.Common.{◌≡◌, ◌≢◌, ℕ, ◌≤◌, Bool, eq-eqb, ne_eqb, List, [], ◌∷◌, ◌++◌, map, set, Option, Some, sym, refl, ap, ◌∙◌, subst, append_assoc, append-nil, arith}
 use mathlib.Core.Logic.{dite}
 use native.Mathlib.Decide.{ℕ_discrete}
 use Rattle.std.specs.Prelude.{if◌then◌else◌, unwrap_or}

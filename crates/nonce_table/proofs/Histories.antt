@@ -1,14 +1,13 @@
 -- The shards once all passes were joined, and their histories.
-use Rattle.std.proofs.Common.{◌≡◌, ◌≢◌, ℕ, zero, suc, ◌<◌, ◌≤◌, max, List, [], ◌∷◌, ◌++◌, length, map, fold, get_or, All, Contains, Some, sym, refl, ap, ◌∙◌, subst, append_assoc, append-nil, arith}
+use Rattle.std.proofs.Common.{◌≡◌, ◌≢◌, ℕ, zero, suc, ◌<◌, ◌≤◌, List, [], ◌∷◌, ◌++◌, length, map, fold, All, Contains, Some, sym, refl, ap, ◌∙◌, subst, append_assoc, append-nil, arith}
 use Rattle.std.specs.List.{slice_get}
 use Rattle.turn_table.specs.Lists.{Each}
-use Rattle.turn_table.specs.History.{Without, GrownByOthers, longer, owners_of}
+use Rattle.turn_table.specs.History.{GrownByOthers, longer, owners_of}
 use Rattle.turn_table.specs.Passes.{TableFacts, PassFacts, HasWholeHistory}
 use Rattle.turn_table.proofs.ListFacts.{each_as, each_both, each_of_map}
 use Rattle.nonce_shard.specs.declared.calls.Call.{Call}
 use Rattle.nonce_shard.specs.declared.sizes.Sizes.{Sizes}
 use Rattle.nonce_shard.specs.declared.sizes.Setting.{Setting}
-use Rattle.nonce_shard.specs.declared.totals.Totals.{Totals}
 use Rattle.nonce_shard.specs.Seat.{Entry, calls_of}
 use Rattle.nonce_shard.specs.Shard.{totals_after}
 use Rattle.nonce_table.specs.declared.closing.Closed.{Closed}

@@ -1,5 +1,5 @@
 -- The histories with which a table closes, and their totals.
-use Rattle.std.specs.Prelude.{◌≡◌, ℕ, ◌<◌, ◌≤◌, All, Contains, Some, List, [], ◌∷◌, ◌++◌, max, map, length, fold, sum_by, slice_get}
+use Rattle.std.specs.Prelude.{◌≡◌, ℕ, ◌≤◌, All, Contains, Some, List, [], ◌∷◌, ◌++◌, max, map, length, fold, sum_by, slice_get}
 use Rattle.nonce_shard.specs.declared.calls.Call.{Call}
 use Rattle.nonce_shard.specs.declared.sizes.Sizes.{Sizes}
 use Rattle.nonce_shard.specs.declared.sizes.Setting.{Setting}

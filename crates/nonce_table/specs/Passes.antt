@@ -1,5 +1,5 @@
 -- What contracts see of a pass to a table, which has a pass to each shard.
-use Rattle.std.specs.Prelude.{◌≡◌, ℕ, ◌<◌, ◌≤◌, Some, List, [], ◌∷◌, map, length, unwrap_or, slice_get, slice_set}
+use Rattle.std.specs.Prelude.{◌≡◌, ℕ, ◌≤◌, Some, List, [], ◌∷◌, map, length, unwrap_or, slice_get, slice_set}
 use Rattle.atomic_table.specs.Seated.{TableId}
 use Rattle.nonce_shard.specs.declared.calls.Call.{Call}
 use Rattle.nonce_shard.specs.declared.calls.Reply.{Reply}

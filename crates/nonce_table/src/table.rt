@@ -1,5 +1,6 @@
 //! A table that makes passes.
 ghost use Rattle.std.specs.Prelude.{◌≡◌, ◌≢◌, ◌+◌, ◌<◌, ◌≤◌, ◌↔◌, ℕ, All, Some, [], IfOk, IfErr, OnOk, OnErr, IsErr, length, slice_get, vec_capacity};
+ghost use Rattle.nonce_shard.specs.Shard.{StandsFor, setting};
 ghost use Rattle.nonce_shard.specs.Sizes.{AreValid};
 ghost use Rattle.nonce_table.specs.Passes.{TablePassFacts};
 ghost use Rattle.nonce_table.specs.Tables.{IsOf, AreShards, names_of, new_pass};
@@ -44,10 +45,40 @@ impl NonceTable {
         ensures sizes { IfOk result (λ t. t.sizes ≡ sizes.now) }
         ensures made { IfOk result (λ t. t.made ≡ 0) }
     {
-        let mut shards = Vec::with_capacity(alloc, sizes.shards as usize)?;
-        let mut openings = Vec::with_capacity(alloc, sizes.shards as usize)?;
-        for number in 0..sizes.shards {
-            let (turns, opening) = open_shard(alloc, Shard::open(alloc, number, sizes)?)?;
+        NonceTable::of(alloc, sizes, open_shards(alloc, sizes)?)
+    }
+}
+
+/// The shards of an empty table.
+fn open_shards(alloc: Global, sizes: &Sizes) -> Result<Vec<Shard>, OutOfMemory>
+    requires { AreValid sizes.now }
+    ensures long { IfOk result (λ shards. length shards.items ≡ sizes.now.shards) }
+    ensures each { IfOk result (λ shards. (k : ℕ) (o : Shard) → slice_get shards.items k ≡ Some o → (setting o ≡ record { number = k; sizes = sizes.now }) × StandsFor o []) }
+{
+    let mut shards = Vec::with_capacity(alloc, sizes.shards as usize)?;
+    for number in 0..sizes.shards {
+        shards.push_reserved(Shard::open(alloc, number, sizes)?);
+    }
+    Ok(shards)
+}
+
+impl<T: TableObject> NonceTable<T> {
+    /// A table of these objects, one for each shard, which have answered nothing.
+    pub(crate) fn of(
+        alloc: Global,
+        sizes: &Sizes,
+        objects: Vec<T>,
+    ) -> Result<NonceTable<T>, OutOfMemory>
+        requires valid { AreValid sizes.now }
+        requires long { length objects.items ≡ sizes.now.shards }
+        requires each { (k : ℕ) (o : T) → slice_get objects.items k ≡ Some o → (T.setting o ≡ record { number = k; sizes = sizes.now }) × T.stands_for o [] }
+        ensures sizes { IfOk result (λ t. t.sizes ≡ sizes.now) }
+        ensures made { IfOk result (λ t. t.made ≡ 0) }
+    {
+        let mut shards = Vec::with_capacity(alloc, objects.len())?;
+        let mut openings = Vec::with_capacity(alloc, objects.len())?;
+        for object in objects {
+            let (turns, opening) = open_shard(alloc, object)?;
             shards.push_reserved(turns);
             openings.push_reserved(opening);
         }
@@ -58,9 +89,7 @@ impl NonceTable {
             made: 0,
         })
     }
-}
 
-impl<T: TableObject> NonceTable<T> {
     /// The turns of its shards, which threads may share.
     pub fn turns(&self) -> &Turns<T>
         ensures { names_of result.now ≡ self.now.names }

@@ -1,11 +1,9 @@
-use Rattle.std.proofs.Common.{◌≡◌, ℕ, List, [], ◌∷◌, length, map, Result, Ok, Err, IfOk, IfErr, sym, subst, ap, ◌∙◌, arith}
+use Rattle.std.proofs.Common.{◌≡◌, [], ◌∷◌, length, map, Result, Ok, Err, IfOk, IfErr, sym, subst, ap, ◌∙◌, arith}
 use Rattle.turn_table.specs.Passes.{PassFacts, TableFacts}
 use Rattle.nonce_shard.specs.declared.calls.Call.{Call}
 use Rattle.nonce_shard.specs.declared.sizes.Setting.{Setting}
-use Rattle.nonce_shard.specs.declared.errors.Worn.{Worn}
-use Rattle.nonce_shard.specs.declared.calls.Reply.{Reply}
 use Rattle.nonce_shard.specs.Seat.{Grows, IsWorn}
-use Rattle.nonce_table.specs.Passes.{TablePassFacts, AnswersAt, IsWornAt, facts_of, name_of, seat_of}
+use Rattle.nonce_table.specs.Passes.{TablePassFacts, facts_of, name_of, seat_of}
 use Rattle.nonce_table.specs.Tables.{names_of}
 use Rattle.nonce_table.proofs.Joining.{as_many, named_at}
 use Rattle.nonce_table.proofs.Places.{some_is}

@@ -6,7 +6,7 @@ use Rattle.nonce_shard.specs.declared.calls.Call.{Call}
 use Rattle.nonce_shard.specs.declared.sizes.Setting.{Setting}
 use Rattle.nonce_table.specs.Passes.{TablePassFacts}
 use Rattle.nonce_table.specs.Tables.{NonceTableFacts}
-use Rattle.nonce_table.specs.Closing.{joined_at, IsClosingHistory, CountsHistories, history_of}
+use Rattle.nonce_table.specs.Closing.{joined_at, CountsHistories}
 use Rattle.nonce_table.proofs.Taking.{taken_next, taken_all}
 use Rattle.nonce_table.proofs.Making.{are_openings}
 use Rattle.nonce_table.proofs.Histories.{all_kept, counts, closing_history}

@@ -1,4 +1,4 @@
-use Rattle.std.proofs.Common.{◌≡◌, ℕ, ◌+◌, List, [], ◌∷◌, ◌++◌, length, Some, sym, ap, ◌∙◌, ⊎_elim, length-append, arith}
+use Rattle.std.proofs.Common.{◌≡◌, ℕ, ◌+◌, List, [], ◌∷◌, ◌++◌, length, sym, ap, ◌∙◌, ⊎_elim, length-append, arith}
 use Rattle.std.specs.List.{slice_get}
 use Rattle.nonce_table.specs.Passes.{TablePassFacts}
 use Rattle.nonce_table.specs.Tables.{NonceTableFacts, new_pass}
