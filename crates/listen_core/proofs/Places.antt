@@ -1,16 +1,19 @@
 -- What one place of the lists says.
-use Rattle.std.proofs.Common.{◌≡◌, ℕ, List, Option, ap, subst}
+use Rattle.std.proofs.Common.{◌≡◌, ℕ, ◌<◌, List, Option, Result, Ok, Err, ap, subst}
+use Rattle.std.specs.Prelude.{IfOk, OnErr}
 use Rattle.auth_decide.specs.declared.site.Site.{Site}
+use Rattle.auth_grammar.specs.declared.octets.OutOfMemory.{OutOfMemory}
 use Rattle.auth_io.specs.Files.{Contents}
 use Rattle.auth_io.specs.Handing.{Handed}
 use Rattle.auth_io.specs.declared.files.Ending.{Ending}
-use Rattle.nonce_shard.specs.Seat.{Seat}
+use Rattle.nonce_shard.specs.Seat.{SameSeat, Seat}
 use Rattle.origin_core.specs.Laws.{lacked_later, passed_none, passed_then}
 use Rattle.worker_loop.specs.Connections.{worker_state}
-use Rattle.worker_loop.specs.Seating.{ServesPlace}
+use Rattle.worker_loop.specs.Seating.{EndsAsWorst, ServesPlace}
 use Rattle.worker_loop.specs.Service.{IsLawful, Service}
 use Rattle.worker_loop.specs.Workers.{Serves}
 use Rattle.worker_loop.specs.declared.finish.Finish.{Finish}
+use Rattle.worker_loop.specs.declared.finish.Finish.TheVariants.{Well}
 use Rattle.listen_core.specs.Service.{outside_at}
 use Rattle.listen_core.specs.Workers.{origin_service, seat_of, server_of, state_of, worker_of}
 use Rattle.listen_core.specs.declared.server.OriginServer.{OriginServer}
@@ -54,3 +57,15 @@ origin_laws {F} {C} {W} {T} contents asked file_faults shown drawn random_faults
       passed_join = λ a b c xs ys p q. passed_then (at a) (at b) (at c) xs ys p q;
       lacked_later = λ a b c xs p. lacked_later (at a).table (at b).table (at c).table xs p.table;
     }
+
+-- what holds at a place, whether the workers served or the lists went back as they were
+pub at_place : {X Y : Type 0} (r : Result Finish OutOfMemory) (n : ℕ) (P : ℕ → Finish → Type 0) (k : ℕ) → k < n → IfOk r (λ whole. EndsAsWorst n whole P) → OnErr r Y → ((f : Finish) → P k f → X) → (Y → X) → X
+at_place (Ok whole) n P k below ends refused served given = served _ (ends.places k Well below)
+at_place (Err e) n P k below ends refused served given = given refused
+
+-- The seat there has grown by calls alone.
+pub same_seat : {A F C W T : Type 0} (contents : F → Option Contents) (asked : F → Option (List (List ℕ × Ending))) (file_faults : F → ℕ) (shown : C → Option (List ℕ)) (drawn : W → Option (List (List ℕ))) (random_faults : W → ℕ) (seat : T → Seat) (site : Site)
+    (coming : A → Option (List (List ℕ))) (handed : A → Option Handed) (faults : A → ℕ) (w w' : Worker A F C W) (t t' : T) (stated : ℕ) (finish : Finish) →
+    ServesPlace (origin_service contents asked file_faults shown drawn random_faults seat site) coming handed faults worker_of seat_of w t w' t' stated finish → SameSeat (seat t) (seat t')
+same_seat contents asked file_faults shown drawn random_faults seat site coming handed faults w w' t t' stated finish p =
+    (serves_there (origin_service contents asked file_faults shown drawn random_faults seat site) coming handed faults w w' t t' stated finish p).passes.outside.table.calls.same

@@ -122,6 +122,7 @@ where
     ensures worn { result.0 ≡ Ok Finish.Worn → (k : ℕ) × (k < vec_len workers)
         × ((t : TablePassFacts) → NotesLimit (pass_seat (slice_index_or passes.items k t)) (pass_seat (slice_index_or result.2.items k t))) }
 
+    ensures of_table { All (λ pass. IsOf table.now pass) result.2.items }
     ensures refused_workers { OnErr result.0 (result.1.items ≡ workers.items) }
     ensures refused_passes { OnErr result.0 (result.2.items ≡ passes.items) }
     ensures as_many_workers { vec_len result.1 ≡ vec_len workers }

@@ -1,6 +1,7 @@
-use Rattle.std.proofs.Common.{rules, ◌≢◌, ◌<◌, ◌∙◌, sym, length, refl, arith}
-use Rattle.nonce_table.specs.Passes.{seat_of}
-use Rattle.listen_core.proofs.Places.{origin_laws, serves_there}
+use Rattle.std.proofs.Common.{◌≢◌, ◌<◌, List, get_or, ◌∙◌, subst, sym, length, refl, arith}
+use Rattle.nonce_table.specs.Passes.{TablePassFacts, seat_of}
+use Rattle.nonce_table.specs.Tables.{IsOf}
+use Rattle.listen_core.proofs.Places.{at_place, origin_laws, same_seat, serves_there}
 use Rattle.worker_loop.proofs.Places.{some_of}
 use Rattle.worker_loop.proofs.Worst.{ends_then, fault_rose, place_of_end, worn_lacked}
 use Rattle.worker_loop.specs.declared.finish.Finish.TheVariants.{Well, Worn, AcceptFault}
@@ -31,3 +32,18 @@ returns-clause-worn g c = λ is.
 
 pub serve_seated-requires-clause-fit : goal.serve_seated-requires-clause-fit
 serve_seated-requires-clause-fit g c κs within = λ k d h. (c.requires.of_table k d h).1 ∙ sym c.turns.ensures
+
+pub returns-clause-of_table : goal.returns-clause-of_table
+returns-clause-of_table g c = λ k d h.
+    let workers = c.args.workers.items in
+    let passes = c.args.passes.items in
+    let back = c.serve_seated.result.2.items in
+    let many = c.serve_seated.ensures.as_many_seats in
+    let below : k < length workers = omega arith in
+    let within : k < length passes = omega arith in
+    let of : IsOf c.args.table.now (get_or passes k d) = c.requires.of_table k d within in
+    at_place {X = IsOf c.args.table.now (get_or back k d)} c.serve_seated.result.0 c.args.workers.len _ k (omega arith) c.serve_seated.ensures.each c.serve_seated.ensures.refused_seats
+    (λ f p.
+    let same = same_seat g.F.Files.contents g.F.Files.asked g.F.Files.faults g.C.Clock.shown g.W.Words.drawn g.W.Words.faults seat_of c.args.site.now g.A.Accept.coming g.A.Accept.handed g.A.Accept.faults _ _ _ _ c.args.count f (p (some_of workers k below) d) in
+    (same.sizes ∙ of.0, same.table ∙ of.1))
+    (λ e. subst (λ (l : List TablePassFacts). IsOf c.args.table.now (get_or l k d)) (sym e) of)
