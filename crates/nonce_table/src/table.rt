@@ -103,6 +103,7 @@ impl<T: TableObject> NonceTable<T> {
         requires few { self.old.made + n ≤ MOST_PASSES }
         ensures number { IfOk result (λ passes. length passes.items ≡ n) }
         ensures new { IfOk result (λ passes. (k : ℕ) (p : TablePassFacts) → slice_get passes.items k ≡ Some p → p ≡ new_pass self.old (self.old.made + 1 + k)) }
+        ensures of { IfOk result (λ passes. All (λ p. IsOf self.new p) passes.items) }
         ensures table { OnOk result (self.new ≡ record (self.old) { made = self.old.made + n }) }
         ensures refused { OnErr result (self.new ≡ self.old) }
     {

@@ -1,5 +1,6 @@
-use Rattle.std.proofs.Common.{◌≡◌, ℕ, ◌+◌, List, [], ◌∷◌, ◌++◌, length, sym, ap, ◌∙◌, ⊎_elim, length-append, arith}
+use Rattle.std.proofs.Common.{◌≡◌, ℕ, ◌+◌, List, [], ◌∷◌, ◌++◌, length, get_or, sym, ap, ◌∙◌, ⊎_elim, length-append, arith}
 use Rattle.std.specs.List.{slice_get}
+use Rattle.std.proofs.lemmas.Option.{slice_get-get_or}
 use Rattle.nonce_table.specs.Passes.{TablePassFacts}
 use Rattle.nonce_table.specs.Tables.{NonceTableFacts, new_pass}
 use Rattle.nonce_table.proofs.Places.{at_end}
@@ -31,3 +32,12 @@ loop-room-preserved g c =
           sym h.0 ∙ c.next_pass.ensures.pass ∙ ap (λ (t : NonceTableFacts). new_pass t (t.made + 1)) i.table ∙ ap (λ (n : ℕ). new_pass first n) number)
           (at_end old pass p k (ap (λ (l : List TablePassFacts). slice_get l k) (sym items) ∙ e));
     }
+
+pub returns-clause-of : goal.returns-clause-of
+returns-clause-of g c = λ k d h.
+    let i = c.loop-room.invariant in
+    let passes = c.loop-room.passes.items in
+    let is = i.new k (get_or passes k d) (slice_get-get_or passes k d h) in
+    let sizes = ap (λ (t : NonceTableFacts). t.sizes) i.table in
+    let names = ap (λ (t : NonceTableFacts). t.names) i.table in
+    (ap (λ (p : TablePassFacts). p.sizes) is ∙ sym sizes, ap (λ (p : TablePassFacts). p.table) is ∙ sym names)
