@@ -8,10 +8,10 @@ use Rattle.sha2.specs.Sha256.{sha256}
 use Rattle.sha2.specs.Sha512.{sha512_256}
 use Rattle.sha2.proofs.Facts256.{length-sha256}
 use Rattle.sha2.proofs.Facts512.{length-sha512_256}
+use Rattle.auth_hash.specs.Algorithm.{digits_of}
 use Rattle.auth_hash.specs.Hash.{hash_text}
 use Rattle.auth_hash.specs.declared.algorithm.Algorithm.{Algorithm}
 use Rattle.auth_hash.specs.declared.algorithm.Algorithm.TheVariants.{Md5, Sha256, Sha512t256}
-use Rattle.cred_store.specs.Kinds.{digits_of}
 
 pub length_hash : (alg : Algorithm) (message : List ℕ) → length (hash_text alg message) ≡ digits_of alg
 unfolding hash_text

@@ -1,3 +1,5 @@
+pub mod Bytes
+pub mod KeyTexts
 pub mod Parts
 pub mod Order
 pub mod Searches
@@ -8,3 +10,4 @@ pub mod Pairs
 pub mod Changed
 pub mod OnePair
 pub mod Digests
+pub mod Flags

@@ -1,5 +1,5 @@
 -- A faulty line of htdigest says no entry.
-use Rattle.std.proofs.Common.{◌≡◌, ◌≢◌, ℕ, ◌+◌, ◌==◌, Bool, true, false, ◌&&◌, not, cond, List, [], ◌∷◌, ◌++◌, length, map, All, refl, sym, ap, ◌∙◌, subst, inl, inr, true≢false, arith}
+use Rattle.std.proofs.Common.{◌≡◌, ◌≢◌, ℕ, ◌+◌, ◌==◌, Bool, true, false, ◌&&◌, not, cond, List, [], ◌∷◌, ◌++◌, length, map, refl, sym, ap, ◌∙◌, subst, inl, inr, true≢false, arith}
 use Rattle.std.specs.Char.{to_ascii_lowercase}
 use Rattle.std.specs.List.{AllZip, list_all}
 use Rattle.std.specs.Str.{str_to_ascii_lowercase}
@@ -9,14 +9,13 @@ use Rattle.auth_hash.specs.HexText.{is_lower_digit}
 use Rattle.cred_store.specs.Faults.{colons}
 use Rattle.cred_store.specs.Htdigest.{ArePairs, AreThreeFaulty, HasThreeFaulty, HasThreeParts, IsPair, IsPairFaulty, PairFault, PairFaultBehind, full_lines, md5_secret}
 use Rattle.cred_store.specs.Kinds.{IsSecret}
-use Rattle.cred_store.specs.LookUps.{text_of}
 use Rattle.cred_store.specs.declared.entry.Entry.{Entry}
-use Rattle.cred_store.specs.declared.entry.Secret.{Secret}
 use Rattle.cred_store.specs.declared.error.LineFault.{LineFault}
-use Rattle.cred_store.specs.declared.error.LineFault.TheVariants.{Form, Name, Realm, Kind, Value, Header}
+use Rattle.cred_store.specs.declared.error.LineFault.TheVariants.{Form, Name, Realm, Kind, Flag, Value, Header}
 use Rattle.cred_store.specs.declared.error.StoreError.{StoreError}
 use Rattle.cred_store.specs.declared.error.StoreError.TheVariants.{BadLine, Repeated, Unsorted, BadName, OutOfMemory}
-use Rattle.cred_store.proofs.Parts.{both_first, both_second, colons_at, cut_once, digits_pass, no_colons, passes_no, plain_bytes}
+use Rattle.cred_store.proofs.Bytes.{both_first, both_second, cut_once, digits_pass, passes_no}
+use Rattle.cred_store.proofs.Parts.{colons_at, no_colons, plain_bytes}
 use Rattle.cred_store.proofs.Pairs.{not_zero}
 
 -- ---- the parts of a line that says an entry
@@ -37,7 +36,7 @@ pair_parts line e h = record {
   no_name = passes_no is_plain_byte 58 refl e.name (plain_bytes e.name h.is_entry.name);
   no_realm = passes_no is_plain_byte 58 refl e.realm (plain_bytes e.realm h.is_entry.realm);
   no_value = passes_no either_case 58 refl h.value (all_lowered h.value
-      (digits_pass (str_to_ascii_lowercase h.value) (subst (λ (s : Secret). All (λ x. is_lower_digit x ≡ true) (text_of s)) h.is_secret h.is_entry.secret.form.1)));
+      (digits_pass (str_to_ascii_lowercase h.value) (subst IsSecret h.is_secret h.is_entry.secret).form.1));
 }
 
 two_of_parts : (line a b c : List ℕ) → HasThreeParts line a b c → colons line ≡ 2
@@ -60,6 +59,7 @@ sound_three why line e h f = by why f.fault
     by Form x = x
     by Header x = x
     by Kind x = x
+    by Flag x = x
     by Name x = true≢false (sym (ap is_plain_name are.0 ∙ h.is_entry.name) ∙ x)
     by Realm x = true≢false (sym (ap is_plain_name are.1 ∙ h.is_entry.realm) ∙ x.1)
     by Value x = x.2 (subst IsSecret (h.is_secret ∙ ap md5_secret (sym are.2)) h.is_entry.secret)

@@ -9,13 +9,13 @@ use Rattle.std.specs.Str.{bytes_eq}
 use Rattle.std.specs.declared.cmp.Ordering.TheVariants.{Less}
 use Rattle.std.proofs.lemmas.Cmp.{on_total, then_total}
 use Rattle.std.proofs.lemmas.Map.Text.{is_eq-slice_cmp}
-use Rattle.auth_hash.specs.Algorithm.{same_algorithm}
-use Rattle.auth_hash.specs.declared.algorithm.Algorithm.{Algorithm}
 use Rattle.auth_hash.specs.declared.algorithm.Algorithm.TheVariants.{Md5, Sha256, Sha512t256}
 use Rattle.cred_store.specs.Keys.{Key, key_at, key_of, key_cmp, entry_cmp, IsRising}
-use Rattle.cred_store.specs.Kinds.{kind_name}
-use Rattle.cred_store.specs.LookUps.{algorithm_of, is_keyed}
+use Rattle.cred_store.specs.Kinds.{kind_name, kind_of, same_kind}
+use Rattle.cred_store.specs.LookUps.{is_keyed}
 use Rattle.cred_store.specs.declared.entry.Entry.{Entry}
+use Rattle.cred_store.specs.declared.kind.SecretKind.{SecretKind}
+use Rattle.cred_store.specs.declared.kind.SecretKind.TheVariants as kinds
 
 pub keys_total : IsTotalOrder key_cmp
 keys_total =
@@ -25,27 +25,34 @@ keys_total =
 pub entries_total : IsTotalOrder entry_cmp
 entries_total = on_total key_of keys_total
 
-one_kind : (a b : Algorithm) → same_algorithm a b ≡ is_eq (slice_cmp nat_cmp (kind_name a) (kind_name b))
-one_kind Md5 Md5 = refl
-one_kind Md5 Sha256 = refl
-one_kind Md5 Sha512t256 = refl
-one_kind Sha256 Md5 = refl
-one_kind Sha256 Sha256 = refl
-one_kind Sha256 Sha512t256 = refl
-one_kind Sha512t256 Md5 = refl
-one_kind Sha512t256 Sha256 = refl
-one_kind Sha512t256 Sha512t256 = refl
+one_kind : (a b : SecretKind) → same_kind a b ≡ is_eq (slice_cmp nat_cmp (kind_name a) (kind_name b))
+one_kind (kinds.Digest Md5) (kinds.Digest Md5) = refl
+one_kind (kinds.Digest Md5) (kinds.Digest Sha256) = refl
+one_kind (kinds.Digest Md5) (kinds.Digest Sha512t256) = refl
+one_kind (kinds.Digest Md5) kinds.ScramSha256 = refl
+one_kind (kinds.Digest Sha256) (kinds.Digest Md5) = refl
+one_kind (kinds.Digest Sha256) (kinds.Digest Sha256) = refl
+one_kind (kinds.Digest Sha256) (kinds.Digest Sha512t256) = refl
+one_kind (kinds.Digest Sha256) kinds.ScramSha256 = refl
+one_kind (kinds.Digest Sha512t256) (kinds.Digest Md5) = refl
+one_kind (kinds.Digest Sha512t256) (kinds.Digest Sha256) = refl
+one_kind (kinds.Digest Sha512t256) (kinds.Digest Sha512t256) = refl
+one_kind (kinds.Digest Sha512t256) kinds.ScramSha256 = refl
+one_kind kinds.ScramSha256 (kinds.Digest Md5) = refl
+one_kind kinds.ScramSha256 (kinds.Digest Sha256) = refl
+one_kind kinds.ScramSha256 (kinds.Digest Sha512t256) = refl
+one_kind kinds.ScramSha256 kinds.ScramSha256 = refl
 
 and_assoc : (a b c : Bool) → (a && b) && c ≡ a && (b && c)
 and_assoc true b c = refl
 and_assoc false b c = refl
 
 -- an entry has a key exactly where their comparison is `Equal`
-pub keyed : (name realm : List ℕ) (alg : Algorithm) (e : Entry) → is_keyed name realm alg e ≡ is_eq (key_cmp (key_of e) (key_at name realm alg))
-keyed name realm alg e =
-    and_assoc (bytes_eq e.name name) (bytes_eq e.realm realm) (same_algorithm (algorithm_of e.secret) alg)
+pub keyed : (name realm : List ℕ) (kind : SecretKind) (e : Entry) → is_keyed name realm kind e ≡ is_eq (key_cmp (key_of e) (key_at name realm kind))
+keyed name realm kind e =
+    and_assoc (bytes_eq e.name name) (bytes_eq e.realm realm) (same_kind (kind_of e.secret) kind)
     ∙ both_tied _ _ _ _ (sym (is_eq-slice_cmp e.name name))
-    (both_tied _ _ _ _ (sym (is_eq-slice_cmp e.realm realm)) (one_kind (algorithm_of e.secret) alg))
+    (both_tied _ _ _ _ (sym (is_eq-slice_cmp e.realm realm)) (one_kind (kind_of e.secret) kind))
 
 -- ---- one more entry at the end
 

@@ -9,10 +9,13 @@ use Rattle.std.proofs.lemmas.List.Sums.{count_by-le-length, length-filter}
 use Rattle.std.proofs.lemmas.List.Splits.{length-slice_split, slice_split_at, slice_split_none}
 use Rattle.cred_store.specs.Faults.{colons}
 use Rattle.cred_store.specs.Htdigest.{ArePairs, IsPair, PairFault, PairFaultBehind, full_lines}
-use Rattle.cred_store.specs.Texts.{HasNo, IsEntry}
+use Rattle.cred_store.specs.Texts.{IsEntry}
+use Rattle.cred_store.specs.Values.{HasNo}
 use Rattle.cred_store.specs.declared.entry.Entry.{Entry}
 use Rattle.cred_store.specs.declared.error.StoreError.{StoreError}
-use Rattle.cred_store.proofs.Parts.{colons_at, neither_first, neither_second, no_colons, some_colon}
+use Rattle.cred_store.specs.declared.version.Version.TheVariants.{Two}
+use Rattle.cred_store.proofs.Bytes.{neither_first, neither_second}
+use Rattle.cred_store.proofs.Parts.{colons_at, no_colons, some_colon}
 
 -- ---- lines
 
@@ -65,14 +68,14 @@ full_length all = omega (arith, length-filter (λ line. not (length line == 0)) 
 pub few_pairs : (all : List (List ℕ)) (said : List Entry) → ArePairs all said → length said ≤ length all
 few_pairs all said h = omega (arith, zip_length (full_lines all) said h, full_length all)
 
-zip_entries : (xs : List (List ℕ)) (ys : List Entry) → AllZip IsPair xs ys → All IsEntry ys
-zip_entries [] [] h = All-nil IsEntry
+zip_entries : (xs : List (List ℕ)) (ys : List Entry) → AllZip IsPair xs ys → All (IsEntry Two) ys
+zip_entries [] [] h = All-nil (IsEntry Two)
 zip_entries [] (y ∷ ys) h = absurd h
 zip_entries (x ∷ xs) [] h = absurd h
-zip_entries (x ∷ xs) (y ∷ ys) h = All-cons IsEntry y ys h.0.is_entry (zip_entries xs ys h.1)
+zip_entries (x ∷ xs) (y ∷ ys) h = All-cons (IsEntry Two) y ys h.0.is_entry (zip_entries xs ys h.1)
 
 -- what they say can stand in a store
-pub pairs_entries : (all : List (List ℕ)) (said : List Entry) → ArePairs all said → All IsEntry said
+pub pairs_entries : (all : List (List ℕ)) (said : List Entry) → ArePairs all said → All (IsEntry Two) said
 pairs_entries all said h = zip_entries (full_lines all) said h
 
 -- ---- colons

@@ -13,6 +13,7 @@ use Rattle.cred_store.specs.Keys.{IsRising, entry_cmp}
 use Rattle.cred_store.specs.LookUps.{is_of}
 use Rattle.cred_store.specs.Texts.{IsEntry, IsStore}
 use Rattle.cred_store.specs.declared.entry.Entry.{Entry}
+use Rattle.cred_store.specs.declared.version.Version.TheVariants.{Two}
 use Rattle.cred_store.proofs.Order.{entries_total}
 use Rattle.cred_store.proofs.Searches.{all_at}
 
@@ -52,14 +53,14 @@ module _ (e : Entry) where
       by Equal more = (p, h.1)
       by Greater more = (p, h)
 
-  pub each_put : (xs : List Entry) → IsEntry e → All IsEntry xs → All IsEntry (put e xs)
-  each_put [] p h = All-cons IsEntry e [] p h
-  each_put (x ∷ xs) p h = by (entry_cmp x e) (each_put xs p (All-tail IsEntry x xs h))
+  pub each_put : (xs : List Entry) → IsEntry Two e → All (IsEntry Two) xs → All (IsEntry Two) (put e xs)
+  each_put [] p h = All-cons (IsEntry Two) e [] p h
+  each_put (x ∷ xs) p h = by (entry_cmp x e) (each_put xs p (All-tail (IsEntry Two) x xs h))
     where
-      by : (o : Ordering) → All IsEntry (put e xs) → All IsEntry (by_order o (x ∷ put e xs) (e ∷ xs) (e ∷ x ∷ xs))
-      by Less more = All-cons IsEntry x (put e xs) (All-head IsEntry x xs h) more
-      by Equal more = All-cons IsEntry e xs p (All-tail IsEntry x xs h)
-      by Greater more = All-cons IsEntry e (x ∷ xs) p h
+      by : (o : Ordering) → All (IsEntry Two) (put e xs) → All (IsEntry Two) (by_order o (x ∷ put e xs) (e ∷ xs) (e ∷ x ∷ xs))
+      by Less more = All-cons (IsEntry Two) x (put e xs) (All-head (IsEntry Two) x xs h) more
+      by Equal more = All-cons (IsEntry Two) e xs p (All-tail (IsEntry Two) x xs h)
+      by Greater more = All-cons (IsEntry Two) e (x ∷ xs) p h
 
   pub length_put : (xs : List Entry) → length (put e xs) ≤ length xs + 1
   length_put [] = omega arith
@@ -92,9 +93,9 @@ pub put_all_more : (more : List Entry) (e : Entry) (xs : List Entry) → put_all
 put_all_more [] e xs = refl
 put_all_more (x ∷ more) e xs = ap (put x) (put_all_more more e xs)
 
-pub each_put_all : (more xs : List Entry) → All IsEntry more → All IsEntry xs → All IsEntry (put_all more xs)
+pub each_put_all : (more xs : List Entry) → All (IsEntry Two) more → All (IsEntry Two) xs → All (IsEntry Two) (put_all more xs)
 each_put_all [] xs p h = h
-each_put_all (x ∷ more) xs p h = each_put x (put_all more xs) (All-head IsEntry x more p) (each_put_all more xs (All-tail IsEntry x more p) h)
+each_put_all (x ∷ more) xs p h = each_put x (put_all more xs) (All-head (IsEntry Two) x more p) (each_put_all more xs (All-tail (IsEntry Two) x more p) h)
 
 pub rising_put_all : (more xs : List Entry) → IsRising xs → IsRising (put_all more xs)
 rising_put_all [] xs up = up
@@ -106,14 +107,14 @@ length_put_all (x ∷ more) xs = omega (arith, length_put x (put_all more xs), l
 
 -- ---- stores
 
-pub put_store : (e : Entry) (xs : List Entry) → IsEntry e → IsStore xs → IsStore (put e xs)
+pub put_store : (e : Entry) (xs : List Entry) → IsEntry Two e → IsStore Two xs → IsStore Two (put e xs)
 put_store e xs p h = record { each = each_put e xs p h.each; rising = rising_put e xs h.rising }
 
-pub put_all_store : (more xs : List Entry) → All IsEntry more → IsStore xs → IsStore (put_all more xs)
+pub put_all_store : (more xs : List Entry) → All (IsEntry Two) more → IsStore Two xs → IsStore Two (put_all more xs)
 put_all_store more xs p h = record { each = each_put_all more xs p h.each; rising = rising_put_all more xs h.rising }
 
-pub without_store : (name realm : List ℕ) (xs : List Entry) → IsStore xs → IsStore (without name realm xs)
+pub without_store : (name realm : List ℕ) (xs : List Entry) → IsStore Two xs → IsStore Two (without name realm xs)
 without_store name realm xs h = record {
-  each = All-filter (λ e. not (is_of name realm e)) IsEntry xs h.each;
+  each = All-filter (λ e. not (is_of name realm e)) (IsEntry Two) xs h.each;
   rising = IsStrictlySortedBy-filter entry_cmp (λ e. not (is_of name realm e)) xs h.rising;
 }

@@ -8,14 +8,16 @@ use Rattle.auth_hash.specs.declared.algorithm.Algorithm.TheVariants.{Md5}
 use Rattle.cred_store.specs.Changes.{put_all}
 use Rattle.cred_store.specs.Faults.{colons}
 use Rattle.cred_store.specs.Kinds.{IsSecret}
-use Rattle.cred_store.specs.Texts.{HasNo, IsEntry}
+use Rattle.cred_store.specs.Texts.{IsEntry}
+use Rattle.cred_store.specs.Values.{HasNo}
 use Rattle.cred_store.specs.declared.entry.Entry.{Entry}
 use Rattle.cred_store.specs.declared.entry.Secret.{Secret}
 use Rattle.cred_store.specs.declared.entry.Secret.TheVariants.{Digest}
 use Rattle.cred_store.specs.declared.error.LineFault.{LineFault}
-use Rattle.cred_store.specs.declared.error.LineFault.TheVariants.{Form, Name, Realm, Kind, Value, Header}
+use Rattle.cred_store.specs.declared.error.LineFault.TheVariants.{Form, Name, Realm, Kind, Flag, Value, Header}
 use Rattle.cred_store.specs.declared.error.StoreError.{StoreError}
 use Rattle.cred_store.specs.declared.error.StoreError.TheVariants.{BadLine, Repeated, Unsorted, BadName, OutOfMemory}
+use Rattle.cred_store.specs.declared.version.Version.TheVariants.{Two}
 
 -- the secret that a value is, which has hexadecimal digits in either case
 abbrev pub md5_secret : List ℕ → Secret
@@ -25,12 +27,13 @@ md5_secret value = Digest Md5 (str_to_ascii_lowercase value)
 abbrev pub pair_text : List ℕ → List ℕ → List ℕ → List ℕ
 pair_text name realm value = name ++ 58 ∷ (realm ++ 58 ∷ value)
 
--- the line says the entry
+-- the line says the entry, which is on
 pub record IsPair (line : List ℕ) (entry : Entry) : Type 0 where
   pub value : List ℕ
   pub says : line ≡ pair_text entry.name entry.realm value
-  pub is_entry : IsEntry entry
+  pub is_entry : IsEntry Two entry
   pub is_secret : entry.secret ≡ md5_secret value
+  pub is_on : entry.on ≡ true
 
 -- the lines that are not empty
 abbrev pub full_lines : List (List ℕ) → List (List ℕ)
@@ -61,6 +64,7 @@ AreThreeFaulty Value name realm value =
     (is_plain_name name ≡ true) × (is_plain_name realm ≡ true) × (IsSecret (md5_secret value) → ⊥)
 AreThreeFaulty Form name realm value = ⊥
 AreThreeFaulty Kind name realm value = ⊥
+AreThreeFaulty Flag name realm value = ⊥
 AreThreeFaulty Header name realm value = ⊥
 
 pub record HasThreeFaulty (line : List ℕ) (why : LineFault) : Type 0 where

@@ -4,10 +4,9 @@ use Rattle.std.specs.Cmp.Lexicographic.{slice_cmp}
 use Rattle.std.specs.List.Sorted.{IsStrictlySortedBy}
 use Rattle.std.specs.Ordering.{nat_cmp, ordering_then}
 use Rattle.std.specs.declared.cmp.Ordering.{Ordering}
-use Rattle.auth_hash.specs.declared.algorithm.Algorithm.{Algorithm}
-use Rattle.cred_store.specs.Kinds.{kind_name}
-use Rattle.cred_store.specs.LookUps.{algorithm_of}
+use Rattle.cred_store.specs.Kinds.{kind_name, kind_of}
 use Rattle.cred_store.specs.declared.entry.Entry.{Entry}
+use Rattle.cred_store.specs.declared.kind.SecretKind.{SecretKind}
 
 -- what tells an entry from the others
 pub record Key : Type 0 where
@@ -15,11 +14,11 @@ pub record Key : Type 0 where
   pub realm : List ℕ
   pub kind : List ℕ
 
-abbrev pub key_at : List ℕ → List ℕ → Algorithm → Key
-key_at name realm alg = record { name = name; realm = realm; kind = kind_name alg }
+abbrev pub key_at : List ℕ → List ℕ → SecretKind → Key
+key_at name realm kind = record { name = name; realm = realm; kind = kind_name kind }
 
 abbrev pub key_of : Entry → Key
-key_of entry = key_at entry.name entry.realm (algorithm_of entry.secret)
+key_of entry = key_at entry.name entry.realm (kind_of entry.secret)
 
 -- by name, then realm, then kind, each by bytes
 abbrev pub key_cmp : Key → Key → Ordering

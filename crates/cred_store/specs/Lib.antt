@@ -1,4 +1,5 @@
 pub mod Kinds
+pub mod Values
 pub mod LookUps
 pub mod Keys
 pub mod Texts

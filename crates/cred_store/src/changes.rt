@@ -1,7 +1,7 @@
 //! Changes of entries that stand in the order of their keys.
-ghost use Rattle.std.specs.Prelude.{◌≡◌, IfOk, OnErr, OnOk};
+ghost use Rattle.std.specs.Prelude.{◌≡◌, ◌<◌, ◌^◌, IfOk, OnErr, OnOk, count_by, length};
 ghost use Rattle.std.specs.List.{list_any};
-ghost use Rattle.cred_store.specs.Changes.{put, put_all, without};
+ghost use Rattle.cred_store.specs.Changes.{put, put_all, switched, with_flag, without};
 ghost use Rattle.cred_store.specs.Keys.{IsRising};
 ghost use Rattle.cred_store.specs.LookUps.{is_of};
 
@@ -20,7 +20,7 @@ pub(crate) fn put(entries: &mut Vec<Entry>, entry: Entry) -> Result<(), OutOfMem
         entries.as_slice(),
         entry.name.bytes(),
         entry.realm.bytes(),
-        entry.secret.algorithm(),
+        entry.secret.kind(),
     ) {
         Ok(at) => entries[at] = entry,
         Err(at) => entries.insert(at, entry)?,
@@ -48,6 +48,35 @@ pub(crate) fn take_out(entries: &mut Vec<Entry>, name: &[u8], realm: &[u8]) -> b
     let there = entries.iter().any(|entry| is_of(entry, name, realm));
     entries.retain(|entry| !is_of(entry, name, realm));
     there
+}
+
+/// Gives the entries of this name and realm the flag.
+pub(crate) fn set_flag(entries: &mut Vec<Entry>, name: &[u8], realm: &[u8], on: bool)
+    ensures { entries.new.items ≡ with_flag name.now realm.now on entries.old.items }
+{
+    for entry in entries.iter_mut() {
+        switch(entry, name, realm, on);
+    }
+}
+
+/// Gives the entry the flag, where it is of this name and realm.
+fn switch(entry: &mut Entry, name: &[u8], realm: &[u8], on: bool)
+    ensures { entry.new ≡ switched name.now realm.now on entry.old }
+{
+    if is_of(entry, name, realm) {
+        entry.on = on;
+    }
+}
+
+/// How many entries are of this name and realm.
+pub(crate) fn count_of(entries: &[Entry], name: &[u8], realm: &[u8]) -> u32
+    requires { length entries.now < 2 ^ 32 }
+    ensures { result ≡ count_by (is_of name.now realm.now) entries.now }
+{
+    entries
+        .iter()
+        .filter(|entry| is_of(entry, name, realm))
+        .count() as u32
 }
 
 /// A copy of the entries.

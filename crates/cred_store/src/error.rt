@@ -13,9 +13,11 @@ pub enum LineFault {
     Realm,
     /// The kind isn't one that a store has.
     Kind,
+    /// The flag is neither `on` nor `off`.
+    Flag,
     /// The value isn't of the kind's form.
     Value,
-    /// The text doesn't begin with the line `authstore 1`.
+    /// The text begins neither with the line `authstore 1` nor with `authstore 2`.
     Header,
 }
 

@@ -10,7 +10,7 @@ ghost use Rattle.cred_store.specs.declared.entry.Entry.{Entry as EntryValue};
 
 use crate::entry::{Entry, Secret};
 use crate::error::{LineFault, StoreError};
-use crate::kind::secret_of;
+use crate::value::digest_of;
 use auth_grammar::{OutOfMemory, Sequence, cut_at, is_plain_name};
 use auth_hash::Algorithm;
 use std::alloc::Global;
@@ -74,7 +74,7 @@ fn read_pair(alloc: Global, line: &[u8], number: u32) -> Result<Entry, StoreErro
         let why = LineFault::Value;
         return Err(StoreError::BadLine { line: number, why });
     };
-    Ok(Entry::of(alloc, parts.name, parts.realm, secret)?)
+    Ok(Entry::of(alloc, parts.name, parts.realm, secret, true)?)
 }
 
 /// The parts of a line, of which the name and the realm may stand in a store.
@@ -119,7 +119,7 @@ fn md5_secret(alloc: Global, value: &[u8]) -> Result<Option<Secret>, OutOfMemory
     ensures none { IfOk result (λ found. IfNone found (IsSecret (md5_secret value.now) → ⊥)) }
 {
     let digits = lower_of(alloc, value)?;
-    Ok(secret_of(Algorithm::Md5, digits.as_slice()))
+    Ok(digest_of(Algorithm::Md5, digits.as_slice()))
 }
 
 /// The text in lower case.

@@ -1,63 +1,60 @@
 //! The kinds of secrets, and how a store names them.
 ghost use Rattle.std.specs.Prelude.{◌≡◌, ◌≢◌, IfSome, IfNone};
-ghost use Rattle.auth_hash.specs.declared.algorithm.Algorithm.{Algorithm};
-ghost use Rattle.cred_store.specs.Kinds.{IsSecret, digits_of, kind_name};
-ghost use Rattle.cred_store.specs.LookUps.{algorithm_of, text_of};
-ghost use Rattle.cred_store.specs.declared.entry.Secret.{Secret as SecretValue};
+ghost use Rattle.cred_store.specs.Kinds.{kind_name, same_kind};
+ghost use Rattle.cred_store.specs.declared.kind.SecretKind.{SecretKind as KindValue};
 
-use crate::entry::Secret;
-use auth_hash::{Algorithm, HexText};
+use auth_hash::Algorithm;
 
-/// How a store names the algorithm.
-pub(crate) fn kind_name(alg: Algorithm) -> &'static [u8]
-    ensures { result.now ≡ kind_name alg }
-{
-    match alg {
-        Algorithm::Md5 => b"md5",
-        Algorithm::Sha256 => b"sha-256",
-        Algorithm::Sha512t256 => b"sha-512-256",
-    }
+/// A kind of secret.
+#[derive(Debug, Drop, Clone, Copy, PartialEq, Eq)]
+pub enum SecretKind {
+    /// H(name:realm:password) of Digest, by this algorithm.
+    Digest(Algorithm),
+    /// The keys of SCRAM-SHA-256.
+    ScramSha256,
 }
 
-/// The algorithm of a kind's name in a store, if it is one.
-pub fn algorithm_named(kind: &[u8]) -> Option<Algorithm>
-    ensures some { IfSome result (λ alg. kind.now ≡ kind_name alg) }
-    ensures none { IfNone result ((alg : Algorithm) → kind.now ≢ kind_name alg) }
-{
-    if kind == b"md5".as_slice() {
-        return Some(Algorithm::Md5);
+impl SecretKind {
+    /// How a store names it.
+    pub fn name(self) -> &'static [u8]
+        ensures { result.now ≡ kind_name self }
+    {
+        match self {
+            SecretKind::Digest(Algorithm::Md5) => b"md5",
+            SecretKind::Digest(Algorithm::Sha256) => b"sha-256",
+            SecretKind::Digest(Algorithm::Sha512t256) => b"sha-512-256",
+            SecretKind::ScramSha256 => b"scram-sha-256",
+        }
     }
-    if kind == b"sha-256".as_slice() {
-        return Some(Algorithm::Sha256);
-    }
-    if kind == b"sha-512-256".as_slice() {
-        return Some(Algorithm::Sha512t256);
-    }
-    None
-}
 
-/// How many hexadecimal digits a digest of the algorithm has.
-pub(crate) fn digits_of(alg: Algorithm) -> usize
-    ensures { result ≡ digits_of alg }
-{
-    match alg {
-        Algorithm::Md5 => 32,
-        Algorithm::Sha256 | Algorithm::Sha512t256 => 64,
+    /// The kind that a store names so, if there is one.
+    pub fn named(name: &[u8]) -> Option<SecretKind>
+        ensures some { IfSome result (λ kind. name.now ≡ kind_name kind) }
+        ensures none { IfNone result ((kind : KindValue) → name.now ≢ kind_name kind) }
+    {
+        if name == b"md5".as_slice() {
+            return Some(SecretKind::Digest(Algorithm::Md5));
+        }
+        if name == b"sha-256".as_slice() {
+            return Some(SecretKind::Digest(Algorithm::Sha256));
+        }
+        if name == b"sha-512-256".as_slice() {
+            return Some(SecretKind::Digest(Algorithm::Sha512t256));
+        }
+        if name == b"scram-sha-256".as_slice() {
+            return Some(SecretKind::ScramSha256);
+        }
+        None
     }
-}
 
-/// The secret of the algorithm that a value is, where it is one.
-pub(crate) fn secret_of(alg: Algorithm, value: &[u8]) -> Option<Secret>
-    ensures kind { IfSome result (λ s. algorithm_of s ≡ alg) }
-    ensures value { IfSome result (λ s. text_of s ≡ value.now) }
-    ensures form { IfSome result (λ s. IsSecret s) }
-    ensures none { IfNone result ((s : SecretValue) → IsSecret s → algorithm_of s ≡ alg → text_of s ≢ value.now) }
-{
-    let Some(ha1) = HexText::read(value) else {
-        return None;
-    };
-    if value.len() != digits_of(alg) {
-        return None;
+    /// Whether the two are one.
+    pub(crate) fn is(self, other: SecretKind) -> bool
+        ensures { result ≡ same_kind self other }
+    {
+        match (self, other) {
+            (SecretKind::Digest(a), SecretKind::Digest(b)) => a.is(b),
+            (SecretKind::ScramSha256, SecretKind::ScramSha256) => true,
+            _ => false,
+        }
     }
-    Some(Secret::Digest { alg, ha1 })
 }

@@ -5,5 +5,5 @@ use Rattle.cred_store.proofs.htdigest.md5_secret.Goals as goal
 
 pub returns-clause-none : goal.returns-clause-none
 returns-clause-none c =
-    none_weaker c.secret_of.result (λ none form. none (md5_secret c.args.value.now) form refl (sym (c.as_slice.ensures.value ∙ c.in_ok-digits.ensures)))
-    c.secret_of.ensures.none
+    none_weaker c.digest_of.result (λ none form. none (md5_secret c.args.value.now) form refl (sym (c.as_slice.ensures.value ∙ c.in_ok-digits.ensures)))
+    c.digest_of.ensures.none

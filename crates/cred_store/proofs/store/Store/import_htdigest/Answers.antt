@@ -5,6 +5,7 @@ use Rattle.std.proofs.lemmas.Result.{err_from_is_err_and}
 use Rattle.cred_store.specs.Changes.{put_all}
 use Rattle.cred_store.specs.Htdigest.{imported}
 use Rattle.cred_store.specs.Texts.{IsEntry}
+use Rattle.cred_store.specs.declared.version.Version.TheVariants.{Two}
 use Rattle.cred_store.specs.declared.entry.Entry.{Entry}
 use Rattle.cred_store.proofs.Order.{rising_none}
 use Rattle.cred_store.proofs.OnePair.{sound_pairs}
@@ -35,7 +36,7 @@ invariant_of-self c =
     c.in_ok-put_all-2.ensures ∙ ap (λ (l : List Entry). put_all l c.in_ok-entries.entries.items) kept ∙ ap (put_all (imported pairs)) copied in
     rw after (
       put_all_store (imported pairs) c.self.inside.entries.items
-          (each_put_all pairs [] (pairs_entries (lines c.args.text.now) pairs c.in_ok-pairs.ensures.pairs) (All-nil IsEntry)) c.self.invariant.0,
+          (each_put_all pairs [] (pairs_entries (lines c.args.text.now) pairs c.in_ok-pairs.ensures.pairs) (All-nil (IsEntry Two))) c.self.invariant.0,
       omega (arith, length_put_all (imported pairs) c.self.inside.entries.items, length_put_all pairs [], c.in_ok-pairs.ensures.few, c.requires, ap length c.self.view_is),
     )
 

@@ -9,4 +9,4 @@ returns-in-Err-clause-refused c = sound c.args.text.now _ (inl (c.in-Err.why, re
 pub returns-in_err-entries-clause-refused : goal.returns-in_err-entries-clause-refused
 returns-in_err-entries-clause-refused c =
     let p = err_from_is_err_and c.from_residual.result c.from_residual.ensures.1 in
-    rw (p.1, p.2) (sound c.args.text.now _ (inr (rw c.in-Ok.ensures.ok c.in_err-entries.ensures.err)))
+    rw (p.1, p.2) (sound c.args.text.now _ (inr (c.in-Ok.read.0, rw c.in-Ok.ensures.ok c.in_err-entries.ensures.err)))
