@@ -1,3 +1,4 @@
+pub mod Numbers
 pub mod Words
 pub mod Commands
 pub mod Outside
@@ -14,3 +15,5 @@ pub mod Passwords
 pub mod Passwd
 pub mod Pipe
 pub mod Run
+pub mod Listen
+pub mod Report

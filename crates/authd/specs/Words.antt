@@ -1,6 +1,18 @@
 -- What the words of the command line ask for.
-use Rattle.std.specs.Prelude.{ℕ, Bool, false, ◌==◌, not, bytes_eq, if◌then◌else◌, List, [], ◌∷◌, codes}
+use Rattle.std.specs.Prelude.{ℕ, Bool, false, ◌==◌, not, bytes_eq, if◌then◌else◌, List, [], ◌∷◌, Option, Some, None, codes}
 use Rattle.std.specs.List.{list_all}
+use Rattle.authd.specs.Numbers.{is_address, number_in}
+use Rattle.authd.specs.declared.crew.TheConstants.{MOST_WORKERS, MOST_CONNECTIONS}
+
+-- what `listen` asks for: the names of a store and of spaces, the folder of the files, an address, how many workers there are,
+-- and how many connections each of them serves
+pub record Listening : Type 0 where
+  pub store : List ℕ
+  pub spaces : List ℕ
+  pub root : List ℕ
+  pub address : List ℕ
+  pub workers : ℕ
+  pub connections : ℕ
 
 pub data Command : Type 0 where
   -- the words are none that the program knows
@@ -14,24 +26,75 @@ pub data Command : Type 0 where
   Import : List ℕ → List ℕ → Command
   -- the name of a store, and a user's name, realm and kind
   Passwd : List ℕ → List ℕ → List ℕ → List ℕ → Command
+  Listen : Listening → Command
 
 -- a word of the command line isn't empty and doesn't begin with `-`
 abbrev pub is_word : List ℕ → Bool
 is_word [] = false
 is_word (b ∷ word) = not (b == 45)
 
+-- ---- what stands behind the name of each command
+
+abbrev pub show_with : List (List ℕ) → Command
+show_with [] = Show
+show_with (word ∷ words) = Usage
+
+abbrev pub pipe_with : List (List ℕ) → Command
+pipe_with (store ∷ spaces ∷ root ∷ []) = Pipe store spaces root
+pipe_with words = Usage
+
+abbrev pub check_with : List (List ℕ) → Command
+check_with (store ∷ spaces ∷ []) = Check store spaces
+check_with words = Usage
+
+abbrev pub import_with : List (List ℕ) → Command
+import_with (store ∷ htdigest ∷ []) = Import store htdigest
+import_with words = Usage
+
+abbrev pub passwd_with : List (List ℕ) → Command
+passwd_with (store ∷ name ∷ realm ∷ kind ∷ []) = Passwd store name realm kind
+passwd_with words = Usage
+
+-- where both numbers are well
+abbrev pub listen_by : List ℕ → List ℕ → List ℕ → List ℕ → Option ℕ → Option ℕ → Command
+listen_by store spaces root address (Some workers) (Some connections) =
+    Listen (record { store = store; spaces = spaces; root = root; address = address; workers = workers; connections = connections })
+listen_by store spaces root address _ _ = Usage
+
+abbrev pub listen_at : List ℕ → List ℕ → List ℕ → List ℕ → List ℕ → List ℕ → Command
+listen_at store spaces root address workers connections =
+    if is_address address then listen_by store spaces root address (number_in 1 MOST_WORKERS workers) (number_in 1 MOST_CONNECTIONS connections) else Usage
+
+abbrev pub listen_with : List (List ℕ) → Command
+listen_with (store ∷ spaces ∷ root ∷ address ∷ workers ∷ connections ∷ []) = listen_at store spaces root address workers connections
+listen_with words = Usage
+
+-- ---- all of them
+
 -- a command by its name, with exactly its words
-abbrev pub named : List (List ℕ) → Command
-named [] = Usage
-named (name ∷ []) = if bytes_eq name (codes "show") then Show else Usage
-named (name ∷ store ∷ []) = Usage
-named (name ∷ first ∷ second ∷ []) =
-    if bytes_eq name (codes "check") then Check first second
-    else if bytes_eq name (codes "import") then Import first second
+abbrev pub named : List ℕ → List (List ℕ) → Command
+named name words =
+    if bytes_eq name (codes "show") then show_with words
+    else if bytes_eq name (codes "pipe") then pipe_with words
+    else if bytes_eq name (codes "check") then check_with words
+    else if bytes_eq name (codes "import") then import_with words
+    else if bytes_eq name (codes "passwd") then passwd_with words
+    else if bytes_eq name (codes "listen") then listen_with words
     else Usage
-named (name ∷ store ∷ spaces ∷ root ∷ []) = if bytes_eq name (codes "pipe") then Pipe store spaces root else Usage
-named (command ∷ store ∷ name ∷ realm ∷ kind ∷ []) = if bytes_eq command (codes "passwd") then Passwd store name realm kind else Usage
-named (command ∷ store ∷ name ∷ realm ∷ kind ∷ word ∷ words) = Usage
+
+abbrev pub by_name : List (List ℕ) → Command
+by_name [] = Usage
+by_name (name ∷ words) = named name words
 
 abbrev pub command_of : List (List ℕ) → Command
-command_of words = if list_all is_word words then named words else Usage
+command_of words = if list_all is_word words then by_name words else Usage
+
+-- what words of `listen` ask for
+abbrev pub listening_in : Command → Option Listening
+listening_in Usage = None
+listening_in Show = None
+listening_in (Pipe store spaces root) = None
+listening_in (Check store spaces) = None
+listening_in (Import store htdigest) = None
+listening_in (Passwd store name realm kind) = None
+listening_in (Listen listening) = Some listening

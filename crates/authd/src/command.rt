@@ -1,8 +1,14 @@
 //! The words of the command line.
-ghost use Rattle.std.specs.Prelude.{◌≡◌, map, string_bytes};
+ghost use Rattle.std.specs.Prelude.{◌≡◌, IfOk, map, string_bytes};
 ghost use Rattle.std.specs.List.{list_all};
-ghost use Rattle.authd.specs.Words.{command_of, is_word};
-ghost use Rattle.authd.specs.Commands.{meaning};
+ghost use Rattle.std.specs.Option.{option_map};
+ghost use Rattle.authd.specs.Commands.{crew_in, listening_of, meaning, parts_of};
+ghost use Rattle.authd.specs.Words.{by_name, check_with, command_of, import_with, is_word, listen_at, listen_with, listening_in, named, passwd_with, pipe_with, show_with};
+
+use crate::crew::{Crew, Listening, MOST_CONNECTIONS, MOST_WORKERS};
+use crate::numbers::{is_address, number_in};
+use auth_grammar::{Octets, OutOfMemory};
+use std::alloc::Global;
 
 /// Where a site stands: the names of the files of its store and of its spaces, and the folder of its files.
 #[derive(Clone, Copy)]
@@ -30,6 +36,24 @@ pub(crate) enum Command<'w> {
     Check { store: &'w [u8], spaces: &'w [u8] },
     Import { store: &'w [u8], htdigest: &'w [u8] },
     Passwd(Account<'w>),
+    Listen(Listening<'w>),
+}
+
+impl<'w> Command<'w> {
+    /// What `listen` asks for, where this is `listen`.
+    pub(crate) fn listening(self) -> Option<Listening<'w>>
+        ensures { option_map listening_of result ≡ listening_in (meaning self.entry) }
+    {
+        match self {
+            Command::Listen(listening) => Some(listening),
+            Command::Usage
+            | Command::Show
+            | Command::Pipe(_)
+            | Command::Check { .. }
+            | Command::Import { .. }
+            | Command::Passwd(_) => None,
+        }
+    }
 }
 
 /// A word isn't empty and doesn't begin with `-`.
@@ -48,38 +72,164 @@ fn are_words(words: &[String]) -> bool
     words.iter().all(|word| is_word(word.as_bytes()))
 }
 
+fn show_with(words: &[String]) -> Command<'_>
+    ensures { meaning result ≡ show_with (map string_bytes words.now) }
+{
+    match words {
+        [] => Command::Show,
+        _ => Command::Usage,
+    }
+}
+
+fn pipe_with(words: &[String]) -> Command<'_>
+    ensures { meaning result ≡ pipe_with (map string_bytes words.now) }
+{
+    match words {
+        [store, spaces, root] => Command::Pipe(Place {
+            store: store.as_bytes(),
+            spaces: spaces.as_bytes(),
+            root: root.as_bytes(),
+        }),
+        _ => Command::Usage,
+    }
+}
+
+fn check_with(words: &[String]) -> Command<'_>
+    ensures { meaning result ≡ check_with (map string_bytes words.now) }
+{
+    match words {
+        [store, spaces] => Command::Check {
+            store: store.as_bytes(),
+            spaces: spaces.as_bytes(),
+        },
+        _ => Command::Usage,
+    }
+}
+
+fn import_with(words: &[String]) -> Command<'_>
+    ensures { meaning result ≡ import_with (map string_bytes words.now) }
+{
+    match words {
+        [store, htdigest] => Command::Import {
+            store: store.as_bytes(),
+            htdigest: htdigest.as_bytes(),
+        },
+        _ => Command::Usage,
+    }
+}
+
+fn passwd_with(words: &[String]) -> Command<'_>
+    ensures { meaning result ≡ passwd_with (map string_bytes words.now) }
+{
+    match words {
+        [store, name, realm, kind] => Command::Passwd(Account {
+            store: store.as_bytes(),
+            name: name.as_bytes(),
+            realm: realm.as_bytes(),
+            kind: kind.as_bytes(),
+        }),
+        _ => Command::Usage,
+    }
+}
+
+/// `listen` at this place, where the other words are an address and two numbers.
+fn listen_at<'w>(
+    place: Place<'w>,
+    address: &'w str,
+    workers: &[u8],
+    connections: &[u8],
+) -> Command<'w>
+    ensures { meaning result ≡ listen_at place.entry.store.now place.entry.spaces.now place.entry.root.now address.now workers.now connections.now }
+{
+    if !is_address(address) {
+        return Command::Usage;
+    }
+    let workers = number_in(1, MOST_WORKERS, workers);
+    let connections = number_in(1, MOST_CONNECTIONS, connections);
+    match (workers, connections) {
+        (Some(workers), Some(connections)) => Command::Listen(Listening {
+            place,
+            address,
+            workers,
+            connections,
+        }),
+        _ => Command::Usage,
+    }
+}
+
+fn listen_with(words: &[String]) -> Command<'_>
+    ensures { meaning result ≡ listen_with (map string_bytes words.now) }
+{
+    match words {
+        [store, spaces, root, address, workers, connections] => {
+            let place = Place {
+                store: store.as_bytes(),
+                spaces: spaces.as_bytes(),
+                root: root.as_bytes(),
+            };
+            listen_at(
+                place,
+                address.as_str(),
+                workers.as_bytes(),
+                connections.as_bytes(),
+            )
+        }
+        _ => Command::Usage,
+    }
+}
+
+/// The command of this name, with exactly its words.
+fn named<'w>(name: &[u8], words: &'w [String]) -> Command<'w>
+    ensures { meaning result ≡ named name.now (map string_bytes words.now) }
+{
+    if name == b"show".as_slice() {
+        show_with(words)
+    } else if name == b"pipe".as_slice() {
+        pipe_with(words)
+    } else if name == b"check".as_slice() {
+        check_with(words)
+    } else if name == b"import".as_slice() {
+        import_with(words)
+    } else if name == b"passwd".as_slice() {
+        passwd_with(words)
+    } else if name == b"listen".as_slice() {
+        listen_with(words)
+    } else {
+        Command::Usage
+    }
+}
+
+/// The first word is the name.
+fn by_name(words: &[String]) -> Command<'_>
+    ensures { meaning result ≡ by_name (map string_bytes words.now) }
+{
+    match words {
+        [name, words @ ..] => named(name.as_bytes(), words),
+        [] => Command::Usage,
+    }
+}
+
 /// The command that these words ask for: its name, and then exactly its words.
 pub(crate) fn command_of(words: &[String]) -> Command<'_>
     ensures { meaning result ≡ command_of (map string_bytes words.now) }
 {
-    if !are_words(words) {
-        return Command::Usage;
+    if are_words(words) {
+        by_name(words)
+    } else {
+        Command::Usage
     }
-    match words {
-        [name] if name.as_bytes() == b"show".as_slice() => Command::Show,
-        [name, store, spaces] if name.as_bytes() == b"check".as_slice() => Command::Check {
-            store: store.as_bytes(),
-            spaces: spaces.as_bytes(),
-        },
-        [name, store, htdigest] if name.as_bytes() == b"import".as_slice() => Command::Import {
-            store: store.as_bytes(),
-            htdigest: htdigest.as_bytes(),
-        },
-        [name, store, spaces, root] if name.as_bytes() == b"pipe".as_slice() => {
-            Command::Pipe(Place {
-                store: store.as_bytes(),
-                spaces: spaces.as_bytes(),
-                root: root.as_bytes(),
-            })
-        }
-        [command, store, name, realm, kind] if command.as_bytes() == b"passwd".as_slice() => {
-            Command::Passwd(Account {
-                store: store.as_bytes(),
-                name: name.as_bytes(),
-                realm: realm.as_bytes(),
-                kind: kind.as_bytes(),
-            })
-        }
-        _ => Command::Usage,
-    }
+}
+
+/// What `main` makes for these words, which don't include the program's name. There is none exactly where they are no
+/// words of `listen`.
+pub fn crew_of(alloc: Global, words: &Vec<String>) -> Result<Option<Crew>, OutOfMemory>
+    ensures { IfOk result (λ crew. option_map parts_of crew ≡ crew_in (command_of (map string_bytes words.now.items))) }
+{
+    let Some(listening) = command_of(words.as_slice()).listening() else {
+        return Ok(None);
+    };
+    Ok(Some(Crew {
+        workers: listening.workers,
+        address: Octets::of(alloc, listening.address.as_bytes())?,
+    }))
 }

@@ -3,22 +3,29 @@
 
 mod check;
 mod command;
+mod crew;
 mod failure;
 mod import;
 mod input;
 mod lines;
+mod listen;
 mod loading;
+mod network;
+mod numbers;
 mod passwd;
 mod password;
 mod pipe;
 mod printing;
+mod report;
 mod run;
 mod saving;
 mod show;
 #[cfg(test)]
 mod tests;
 
+use crate::command::crew_of;
 use crate::failure::Failure;
+use crate::network::listen_on;
 use crate::run::run;
 use auth_grammar::OutOfMemory;
 use auth_io::{DiskFiles, OsWords, StdLink, SystemClock};
@@ -26,6 +33,8 @@ use std::alloc::Global;
 use std::env;
 use std::io::{self, ErrorKind};
 use std::process::ExitCode;
+use std::sync::Wait;
+use std::thread::Threads;
 
 /// The words of the command line, without the program's name. Where they aren't all text there are none.
 fn words_of(rt: &HostRuntime, alloc: Global) -> Result<Vec<String>, OutOfMemory> {
@@ -36,19 +45,35 @@ fn words_of(rt: &HostRuntime, alloc: Global) -> Result<Vec<String>, OutOfMemory>
     }
 }
 
-fn main(rt: HostRuntime) -> ExitCode {
-    let alloc = rt.alloc();
-    let Ok(words) = words_of(&rt, alloc) else {
-        return ExitCode::from(Failure::OutOfMemory.status());
-    };
-    let status = run(
+/// Does what the words ask for over the standard streams.
+fn run_alone(rt: &HostRuntime, alloc: Global, words: &Vec<String>) -> u8 {
+    run(
         alloc,
-        &words,
+        words,
         &mut StdLink::new(rt.stdin(), rt.stdout()),
-        &mut DiskFiles::new(&rt, alloc),
-        &mut SystemClock::new(&rt),
-        &mut OsWords::new(&rt),
+        &mut DiskFiles::new(rt, alloc),
+        &mut SystemClock::new(rt),
+        &mut OsWords::new(rt),
         &mut StdLink::new(io::empty(), rt.stderr()),
-    );
-    ExitCode::from(status)
+    )
+}
+
+/// Does what the words of the command line ask for.
+fn perform<R: Threads + Wait + Sync>(
+    rt: &HostRuntime,
+    threads: &R,
+    alloc: Global,
+) -> Result<u8, OutOfMemory> {
+    let words = words_of(rt, alloc)?;
+    match crew_of(alloc, &words)? {
+        Some(crew) => listen_on(rt, threads, alloc, &words, &crew),
+        None => Ok(run_alone(rt, alloc, &words)),
+    }
+}
+
+fn main(rt: HostRuntime) -> ExitCode {
+    match perform(&rt, &rt, rt.alloc()) {
+        Ok(status) => ExitCode::from(status),
+        Err(OutOfMemory) => ExitCode::from(Failure::OutOfMemory.status()),
+    }
 }

@@ -63,7 +63,8 @@ fn perform<L: Link, F: Files, C: Clock, W: Words>(
         IfErr result (FailureSays v (objects link.old files.old clock.old random.old) (objects link.new files.new clock.new random.new)) }
 {
     match command_of(words) {
-        Command::Usage => Err(Failure::Usage),
+        // `listen` is done over workers
+        Command::Usage | Command::Listen(_) => Err(Failure::Usage),
         Command::Show => show(alloc, link),
         Command::Pipe(place) => pipe(alloc, &place, link, files, clock, random),
         Command::Check { store, spaces } => check(alloc, store, spaces, link, files),
@@ -73,7 +74,7 @@ fn perform<L: Link, F: Files, C: Clock, W: Words>(
 }
 
 /// Tells a failure, and answers the exit status.
-fn report<D: Sink>(alloc: Global, ending: Result<(), Failure>, diag: &mut D) -> u8
+pub(crate) fn report<D: Sink>(alloc: Global, ending: Result<(), Failure>, diag: &mut D) -> u8
     ensures { Reports ending (D.written diag.old) (D.written diag.new) (D.faults diag.old) (D.faults diag.new) result }
 {
     let Err(failure) = ending else {

@@ -1,4 +1,6 @@
 //! What no clause says: the texts that the program prints, and that it ends well with memory to spare.
+mod at_once;
+mod listen;
 mod pipe;
 mod rows;
 mod secrets;
@@ -66,6 +68,15 @@ fn file_of(files: &MemFiles, name: &[u8]) -> Result<Option<Octets>, Fail> {
     }
 }
 
+/// The words of a text, between which stands a space each.
+fn words_of(alloc: Global, text: &str) -> Result<Vec<String>, Fail> {
+    let mut words = Vec::new(alloc);
+    for word in text.split(' ') {
+        words.push(String::from_str(alloc, word)?)?;
+    }
+    Ok(words)
+}
+
 /// Runs the program over memory. Between the words stands a space each.
 fn run_over(
     alloc: Global,
@@ -74,10 +85,6 @@ fn run_over(
     contents: Vec<(Octets, Octets)>,
     failing: Failing,
 ) -> Result<Ran, Fail> {
-    let mut list = Vec::new(alloc);
-    for word in words.split(' ') {
-        list.push(String::from_str(alloc, word)?)?;
-    }
     let mut files = MemFiles::new(
         alloc,
         contents,
@@ -87,7 +94,7 @@ fn run_over(
     let mut diag = MemSink::new(alloc, vec![in alloc; 5]?, vec![in alloc; failing.diag]?);
     let status = run(
         alloc,
-        &list,
+        &words_of(alloc, words)?,
         link,
         &mut files,
         &mut MemClock::new(vec![in alloc; 0]?),
@@ -114,7 +121,7 @@ fn check(rt: &impl Abort, ran: &Ran, status: u8, link: &[u8], diag: &[u8], row: 
 fn other_words_are_answered_with_usage(rt: HostRuntime) -> Result<(), Fail> {
     let alloc = rt.alloc();
     let lines =
-        "\n-\nshow -\nshow x\nShow\nshows\nshow \npipe\npipe a b\npipe a b c d\npipe a  c\npipe a b -c\ncheck a\ncheck a b c\ncheck a -b\nimport a\nimport a b c\npasswd a b c\npasswd a b c md5 d\npasswd a b c MD5\npasswd a b c scram-sha-256\npasswd a b:b c md5\npasswd a b c:c md5\n--help";
+        "\n-\nshow -\nshow x\nShow\nshows\nshow \npipe\npipe a b\npipe a b c d\npipe a  c\npipe a b -c\ncheck a\ncheck a b c\ncheck a -b\nimport a\nimport a b c\npasswd a b c\npasswd a b c md5 d\npasswd a b c MD5\npasswd a b c scram-sha-256\npasswd a b:b c md5\npasswd a b c:c md5\nlisten a b c 127.0.0.1:8080 1 1\n--help";
     for words in lines.split('\n') {
         let mut link = link_of(alloc, b"a b=c", 2, NONE)?;
         let ran = run_over(alloc, words, &mut link, vec![in alloc]?, NONE)?;

@@ -4,15 +4,15 @@ use auth_grammar::Octets;
 use std::alloc::Global;
 use std::test::Fail;
 
-fn store_text() -> &'static [u8] {
+pub(super) fn store_text() -> &'static [u8] {
     b"authstore 1\nMufasa:http-auth@example.org:sha-256:7987c64c30e25f1b74be53f966b49b90f2808aa92faf9a00262392d7b4794232\n"
 }
 
-fn spaces_text() -> &'static [u8] {
+pub(super) fn spaces_text() -> &'static [u8] {
     b"authspaces 1\n/ required SHA-256 http-auth@example.org\n"
 }
 
-fn bare_request() -> &'static [u8] {
+pub(super) fn bare_request() -> &'static [u8] {
     b"GET /dir/index.html HTTP/1.1\r\nHost: example.org\r\n\r\n"
 }
 
