@@ -4,7 +4,7 @@ use Rattle.std.specs.Option.{option_map}
 use Rattle.authd.specs.Words as words
 use Rattle.authd.specs.Words.{listening_in}
 use Rattle.authd.specs.declared.command.Command.{Command}
-use Rattle.authd.specs.declared.command.Command.TheVariants.{Usage, Show, Pipe, Check, Import, Passwd, Listen}
+use Rattle.authd.specs.declared.command.Command.TheVariants.{Usage, Show, Pipe, Check, Import, Passwd, Switch, Migrate, Listen}
 use Rattle.authd.specs.declared.crew.Listening.{Listening}
 use Rattle.authd.specs.declared.crew.Crew.{Crew}
 
@@ -17,7 +17,9 @@ meaning Show = words.Show
 meaning (Pipe place) = words.Pipe place.store.now place.spaces.now place.root.now
 meaning (Check store spaces) = words.Check store.now spaces.now
 meaning (Import store htdigest) = words.Import store.now htdigest.now
-meaning (Passwd account) = words.Passwd account.store.now account.name.now account.realm.now account.kind.now
+meaning (Passwd account) = words.Passwd account.store.now account.name.now account.realm.now account.kind.now account.rounds
+meaning (Switch holder on) = words.Switch holder.store.now holder.name.now holder.realm.now on
+meaning (Migrate store) = words.Migrate store.now
 meaning (Listen listening) = words.Listen (listening_of listening)
 
 -- how many workers, and the address

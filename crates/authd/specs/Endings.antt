@@ -96,6 +96,11 @@ LinkFilesSay written reads writes files link link' f f' (failure.Truncated at) =
 LinkFilesSay written reads writes files link link' f f' failure.Worn = ⊥
 LinkFilesSay written reads writes files link link' f f' failure.OutOfMemory = ⊤
 
+-- the same of one that is given the source of random words too
+abbrev pub LinkFilesWordsSay : {L F W : Type 0} → (L → Option (List ℕ)) → (L → ℕ) → (L → ℕ) → (F → FilesState) → (W → ℕ) → L → L → F → F → W → W → Failure → Type 0
+LinkFilesWordsSay written reads writes files draws link link' f f' random random' (failure.Fault fault.Draw) = Rose (draws random) (draws random')
+LinkFilesWordsSay written reads writes files draws link link' f f' random random' failure = LinkFilesSay written reads writes files link link' f f' failure
+
 -- the statuses of refusals
 abbrev pub IsRefusal : ℕ → Type 0
 IsRefusal status = (status ≡ 2) ⊎ (status ≡ 3)

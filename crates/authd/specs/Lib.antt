@@ -1,5 +1,6 @@
 pub mod Numbers
 pub mod Words
+pub mod Options
 pub mod Commands
 pub mod Outside
 pub mod Endings
@@ -13,6 +14,8 @@ pub mod Saving
 pub mod Import
 pub mod Passwords
 pub mod Passwd
+pub mod Switch
+pub mod Migrate
 pub mod Pipe
 pub mod Run
 pub mod Listen

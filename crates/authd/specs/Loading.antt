@@ -5,8 +5,7 @@ use Rattle.auth_io.specs.Files.{ReadAnswers, AddsAsked, read_entry, ReadRose}
 use Rattle.auth_io.specs.declared.files.FileAnswer.{FileAnswer}
 use Rattle.auth_io.specs.declared.files.FileAnswer.TheVariants as file
 use Rattle.cred_store.specs.Faults.{FirstFault}
-use Rattle.cred_store.specs.Texts as store
-use Rattle.cred_store.specs.Texts.{store_text}
+use Rattle.cred_store.specs.Texts.{IsStoreText}
 use Rattle.cred_store.specs.declared.entry.Entry.{Entry}
 use Rattle.cred_store.specs.declared.error.StoreError.{StoreError}
 use Rattle.cred_store.specs.declared.error.StoreError.TheVariants as error
@@ -44,7 +43,7 @@ text_in absent file.OutOfMemory = Err failure.OutOfMemory
 
 -- what reading a text of secrets answers
 abbrev pub ReadsStore : List ℕ → Result (List Entry) StoreError → Type 0
-ReadsStore text (Ok entries) = store.IsStore entries × (text ≡ store_text entries)
+ReadsStore text (Ok entries) = IsStoreText text entries
 ReadsStore text (Err error.OutOfMemory) = ⊤
 ReadsStore text (Err other) = FirstFault text other
 
@@ -60,6 +59,11 @@ abbrev pub IsStore : Result (List ℕ) Failure → Result (List Entry) Failure �
 IsStore (Err other) result = result ≡ Err other
 IsStore (Ok text) (Ok entries) = ReadsStore text (Ok entries)
 IsStore (Ok text) (Err other) = (error : StoreError) × ReadsStore text (Err error) × (other ≡ store_failure error)
+
+-- the store in a file, or why there is none
+abbrev pub LoadsStore : {F : Type 0} → (F → FilesState) → F → F → List ℕ → Result (List Entry) Failure → Type 0
+LoadsStore at before now name result =
+    (answer : FileAnswer) × ReadsFile (at before) (at now) name answer × IsStore (text_in refusal.StoreAbsent answer) result
 
 -- the store in an answer, which has no entries where there is no file, or why there is none
 abbrev pub IsKept : FileAnswer → Result (List Entry) Failure → Type 0

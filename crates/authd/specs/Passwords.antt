@@ -4,7 +4,7 @@ use Rattle.std.specs.Io.KnownBytes.{Consumes, IsAtEnd}
 use Rattle.std.specs.List.{list_all}
 use Rattle.std.specs.Str.Lines.{strip_carriage_return}
 use Rattle.auth_grammar.specs.Plain.{is_printable}
-use Rattle.cred_store.specs.Texts.{HasNo}
+use Rattle.cred_store.specs.Values.{HasNo}
 use Rattle.authd.specs.declared.failure.Failure.{Failure}
 use Rattle.authd.specs.declared.failure.Failure.TheVariants as failure
 use Rattle.authd.specs.declared.failure.Fault.TheVariants as fault

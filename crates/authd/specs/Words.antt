@@ -1,5 +1,5 @@
 -- What the words of the command line ask for.
-use Rattle.std.specs.Prelude.{ℕ, Bool, false, ◌==◌, not, bytes_eq, if◌then◌else◌, List, [], ◌∷◌, Option, Some, None, codes}
+use Rattle.std.specs.Prelude.{ℕ, Bool, true, false, ◌==◌, not, bytes_eq, if◌then◌else◌, List, [], ◌∷◌, Option, Some, None, codes}
 use Rattle.std.specs.List.{list_all}
 use Rattle.authd.specs.Numbers.{is_address, number_in}
 use Rattle.authd.specs.declared.crew.TheConstants.{MOST_WORKERS, MOST_CONNECTIONS}
@@ -24,8 +24,12 @@ pub data Command : Type 0 where
   Check : List ℕ → List ℕ → Command
   -- the names of a store and of a text of htdigest
   Import : List ℕ → List ℕ → Command
-  -- the name of a store, and a user's name, realm and kind
-  Passwd : List ℕ → List ℕ → List ℕ → List ℕ → Command
+  -- the name of a store, a user's name, realm and kind, and an iteration count
+  Passwd : List ℕ → List ℕ → List ℕ → List ℕ → ℕ → Command
+  -- the name of a store, a user's name and realm, and the flag that its secrets are given
+  Switch : List ℕ → List ℕ → List ℕ → Bool → Command
+  -- the name of a store
+  Migrate : List ℕ → Command
   Listen : Listening → Command
 
 -- a word of the command line isn't empty and doesn't begin with `-`
@@ -52,8 +56,16 @@ import_with (store ∷ htdigest ∷ []) = Import store htdigest
 import_with words = Usage
 
 abbrev pub passwd_with : List (List ℕ) → Command
-passwd_with (store ∷ name ∷ realm ∷ kind ∷ []) = Passwd store name realm kind
+passwd_with (store ∷ name ∷ realm ∷ kind ∷ []) = Passwd store name realm kind 4096
 passwd_with words = Usage
+
+abbrev pub switch_with : Bool → List (List ℕ) → Command
+switch_with on (store ∷ name ∷ realm ∷ []) = Switch store name realm on
+switch_with on words = Usage
+
+abbrev pub migrate_with : List (List ℕ) → Command
+migrate_with (store ∷ []) = Migrate store
+migrate_with words = Usage
 
 -- where both numbers are well
 abbrev pub listen_by : List ℕ → List ℕ → List ℕ → List ℕ → Option ℕ → Option ℕ → Command
@@ -79,6 +91,9 @@ named name words =
     else if bytes_eq name (codes "check") then check_with words
     else if bytes_eq name (codes "import") then import_with words
     else if bytes_eq name (codes "passwd") then passwd_with words
+    else if bytes_eq name (codes "disable") then switch_with false words
+    else if bytes_eq name (codes "enable") then switch_with true words
+    else if bytes_eq name (codes "migrate") then migrate_with words
     else if bytes_eq name (codes "listen") then listen_with words
     else Usage
 
@@ -96,5 +111,7 @@ listening_in Show = None
 listening_in (Pipe store spaces root) = None
 listening_in (Check store spaces) = None
 listening_in (Import store htdigest) = None
-listening_in (Passwd store name realm kind) = None
+listening_in (Passwd store name realm kind rounds) = None
+listening_in (Switch store name realm on) = None
+listening_in (Migrate store) = None
 listening_in (Listen listening) = Some listening

@@ -3,8 +3,9 @@ ghost use Rattle.std.specs.Prelude.{◌≡◌, IfOk, map, string_bytes};
 ghost use Rattle.std.specs.List.{list_all};
 ghost use Rattle.std.specs.Option.{option_map};
 ghost use Rattle.authd.specs.Commands.{crew_in, listening_of, meaning, parts_of};
-ghost use Rattle.authd.specs.Words.{by_name, check_with, command_of, import_with, is_word, listen_at, listen_with, listening_in, named, passwd_with, pipe_with, show_with};
+ghost use Rattle.authd.specs.Words.{by_name, check_with, command_of, import_with, is_word, listen_at, listen_with, listening_in, migrate_with, named, passwd_with, pipe_with, show_with, switch_with};
 
+use crate::account::{Account, ROUNDS};
 use crate::crew::{Crew, Listening, MOST_CONNECTIONS, MOST_WORKERS};
 use crate::numbers::{is_address, number_in};
 use auth_grammar::{Octets, OutOfMemory};
@@ -18,13 +19,12 @@ pub(crate) struct Place<'w> {
     pub(crate) root: &'w [u8],
 }
 
-/// Whose secret is to be set: the name of the file of the store, a name, a realm and a kind.
+/// Whose secrets are meant: the name of the file of the store, a name and a realm.
 #[derive(Clone, Copy)]
-pub(crate) struct Account<'w> {
+pub(crate) struct Holder<'w> {
     pub(crate) store: &'w [u8],
     pub(crate) name: &'w [u8],
     pub(crate) realm: &'w [u8],
-    pub(crate) kind: &'w [u8],
 }
 
 /// What the words of the command line ask for.
@@ -36,6 +36,8 @@ pub(crate) enum Command<'w> {
     Check { store: &'w [u8], spaces: &'w [u8] },
     Import { store: &'w [u8], htdigest: &'w [u8] },
     Passwd(Account<'w>),
+    Switch { holder: Holder<'w>, on: bool },
+    Migrate { store: &'w [u8] },
     Listen(Listening<'w>),
 }
 
@@ -51,13 +53,15 @@ impl<'w> Command<'w> {
             | Command::Pipe(_)
             | Command::Check { .. }
             | Command::Import { .. }
-            | Command::Passwd(_) => None,
+            | Command::Passwd(_)
+            | Command::Switch { .. }
+            | Command::Migrate { .. } => None,
         }
     }
 }
 
 /// A word isn't empty and doesn't begin with `-`.
-fn is_word(word: &[u8]) -> bool
+pub(crate) fn is_word(word: &[u8]) -> bool
     ensures { result ≡ is_word word.now }
 {
     match word.first() {
@@ -127,7 +131,35 @@ fn passwd_with(words: &[String]) -> Command<'_>
             name: name.as_bytes(),
             realm: realm.as_bytes(),
             kind: kind.as_bytes(),
+            rounds: ROUNDS,
         }),
+        _ => Command::Usage,
+    }
+}
+
+fn switch_with(on: bool, words: &[String]) -> Command<'_>
+    ensures { meaning result ≡ switch_with on (map string_bytes words.now) }
+{
+    match words {
+        [store, name, realm] => Command::Switch {
+            holder: Holder {
+                store: store.as_bytes(),
+                name: name.as_bytes(),
+                realm: realm.as_bytes(),
+            },
+            on,
+        },
+        _ => Command::Usage,
+    }
+}
+
+fn migrate_with(words: &[String]) -> Command<'_>
+    ensures { meaning result ≡ migrate_with (map string_bytes words.now) }
+{
+    match words {
+        [store] => Command::Migrate {
+            store: store.as_bytes(),
+        },
         _ => Command::Usage,
     }
 }
@@ -192,6 +224,12 @@ fn named<'w>(name: &[u8], words: &'w [String]) -> Command<'w>
         import_with(words)
     } else if name == b"passwd".as_slice() {
         passwd_with(words)
+    } else if name == b"disable".as_slice() {
+        switch_with(false, words)
+    } else if name == b"enable".as_slice() {
+        switch_with(true, words)
+    } else if name == b"migrate".as_slice() {
+        migrate_with(words)
     } else if name == b"listen".as_slice() {
         listen_with(words)
     } else {

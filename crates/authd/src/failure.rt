@@ -170,7 +170,7 @@ impl Refusal {
 }
 
 /// Words and a number on a line.
-fn numbered_line(alloc: Global, words: &[u8], number: u64) -> Result<Octets, OutOfMemory>
+pub(crate) fn numbered_line(alloc: Global, words: &[u8], number: u64) -> Result<Octets, OutOfMemory>
     ensures { IfOk result (λ line. line ≡ numbered_line words.now number) }
 {
     let mut line = Octets::of(alloc, words)?;

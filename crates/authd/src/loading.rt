@@ -1,7 +1,7 @@
 //! Reading a site from its files.
 ghost use Rattle.std.specs.Prelude.{◌≡◌, ◌≤◌};
 ghost use Rattle.auth_io.specs.declared.files.FileAnswer.{FileAnswer as Answer};
-ghost use Rattle.authd.specs.Loading.{IsKept, IsSpaces, IsStore, LoadsSite, ReadsFile, text_in};
+ghost use Rattle.authd.specs.Loading.{IsKept, IsSpaces, IsStore, LoadsSite, LoadsStore, ReadsFile, text_in};
 ghost use Rattle.origin_core.specs.Outside.{files_state};
 
 use crate::command::Place;
@@ -76,9 +76,13 @@ pub(crate) fn kept_store<F: Files>(
 }
 
 /// The store in a file.
-fn store_of<F: Files>(alloc: Global, files: &mut F, name: &[u8]) -> Result<Store, Failure>
-    ensures { let at = files_state F.contents F.asked F.faults in
-        (answer : Answer) × ReadsFile (at files.old) (at files.new) name.now answer × IsStore (text_in Refusal.StoreAbsent answer) result }
+pub(crate) fn store_of<F: Files>(
+    alloc: Global,
+    files: &mut F,
+    name: &[u8],
+) -> Result<Store, Failure>
+    ensures reads { LoadsStore (files_state F.contents F.asked F.faults) files.old files.new name.now result }
+    ensures later { F.faults files.old ≤ F.faults files.new }
 {
     store_in(alloc, text_of(files, name, Refusal::StoreAbsent))
 }

@@ -1,6 +1,7 @@
 //! The program `authd`: HTTP authentication at a server.
 #![tactic(auto)]
 
+mod account;
 mod check;
 mod command;
 mod crew;
@@ -10,8 +11,10 @@ mod input;
 mod lines;
 mod listen;
 mod loading;
+mod migrate;
 mod network;
 mod numbers;
+mod options;
 mod passwd;
 mod password;
 mod pipe;
@@ -20,6 +23,7 @@ mod report;
 mod run;
 mod saving;
 mod show;
+mod switch;
 #[cfg(test)]
 mod tests;
 

@@ -3,19 +3,22 @@ ghost use Rattle.std.specs.Prelude.{◌≡◌, ℕ, IfErr, OnErr, OnOk, map, str
 ghost use Rattle.std.specs.Io.KnownBytes.{Appends};
 ghost use Rattle.connection_loop.specs.Account.{link_of};
 ghost use Rattle.authd.specs.Endings.{Ending, FailureSays, IsRefusal, Reports, Tells, line_of};
+ghost use Rattle.authd.specs.Options.{asked_for};
 ghost use Rattle.authd.specs.Outside.{IsUntouched, SomeRose, objects, views};
 ghost use Rattle.origin_core.specs.Outside.{files_state};
 ghost use Rattle.authd.specs.Run.{Does};
-ghost use Rattle.authd.specs.Words.{command_of};
 
 use crate::check::check;
-use crate::command::{Command, command_of};
+use crate::command::Command;
 use crate::failure::Failure;
 use crate::import::import;
+use crate::migrate::migrate;
+use crate::options::asked_for;
 use crate::passwd::passwd;
 use crate::pipe::pipe;
 use crate::printing::tell;
 use crate::show::show;
+use crate::switch::switch;
 use auth_grammar::OutOfMemory;
 use auth_io::{Clock, Files, Link, Sink, Words};
 use std::alloc::Global;
@@ -33,7 +36,7 @@ pub fn run<L: Link, F: Files, C: Clock, W: Words, D: Sink>(
 ) -> u8
     // What the words ask for is done, with some ending, which the status and the line on diag tell.
     ensures does { let v = views (link_of L.left L.given L.written L.reads) L.read_faults L.write_faults (files_state F.contents F.asked F.faults) C.shown W.drawn W.faults in
-        (ending : Ending) × Does v (command_of (map string_bytes words.now.items)) (objects link.old files.old clock.old random.old) (objects link.new files.new clock.new random.new) ending
+        (ending : Ending) × Does v (asked_for (map string_bytes words.now.items)) (objects link.old files.old clock.old random.old) (objects link.new files.new clock.new random.new) ending
         × Reports ending (D.written diag.old) (D.written diag.new) (D.faults diag.old) (D.faults diag.new) result }
 
     // Where the words, the input or a file is refused nothing is written, and no file changes.
@@ -58,18 +61,20 @@ fn perform<L: Link, F: Files, C: Clock, W: Words>(
     random: &mut W,
 ) -> Result<(), Failure>
     ensures does { let v = views (link_of L.left L.given L.written L.reads) L.read_faults L.write_faults (files_state F.contents F.asked F.faults) C.shown W.drawn W.faults in
-        Does v (command_of (map string_bytes words.now)) (objects link.old files.old clock.old random.old) (objects link.new files.new clock.new random.new) result }
+        Does v (asked_for (map string_bytes words.now)) (objects link.old files.old clock.old random.old) (objects link.new files.new clock.new random.new) result }
     ensures says { let v = views (link_of L.left L.given L.written L.reads) L.read_faults L.write_faults (files_state F.contents F.asked F.faults) C.shown W.drawn W.faults in
         IfErr result (FailureSays v (objects link.old files.old clock.old random.old) (objects link.new files.new clock.new random.new)) }
 {
-    match command_of(words) {
+    match asked_for(words) {
         // `listen` is done over workers
         Command::Usage | Command::Listen(_) => Err(Failure::Usage),
         Command::Show => show(alloc, link),
         Command::Pipe(place) => pipe(alloc, &place, link, files, clock, random),
         Command::Check { store, spaces } => check(alloc, store, spaces, link, files),
         Command::Import { store, htdigest } => import(alloc, store, htdigest, link, files),
-        Command::Passwd(account) => passwd(alloc, &account, link, files),
+        Command::Passwd(account) => passwd(alloc, &account, link, files, random),
+        Command::Switch { holder, on } => switch(alloc, &holder, on, link, files),
+        Command::Migrate { store } => migrate(alloc, store, link, files),
     }
 }
 

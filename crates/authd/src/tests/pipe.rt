@@ -138,7 +138,7 @@ fn a_site_is_refused_before_anything_is_read(rt: HostRuntime) -> Result<(), Fail
     let no_spaces = refused(alloc, &[store])?;
     check(&rt, &no_spaces, 3, b"", b"spaces absent\n", b"no spaces");
     // the store's text is refused before the file of the spaces is read
-    let bad_store = refused(alloc, &[(b"store", b"authstore 2\n")])?;
+    let bad_store = refused(alloc, &[(b"store", b"authstore 3\n")])?;
     check(&rt, &bad_store, 3, b"", b"store line 1\n", b"another store");
     let bad_spaces = refused(alloc, &[store, (b"spaces", b"")])?;
     check(

@@ -78,6 +78,15 @@ fn everyday_client() -> Exchange {
     }
 }
 
+/// The same requests, where the entry of the store is off.
+fn switched_off() -> Exchange {
+    Exchange {
+        store: b"authstore 2\nMufasa:http-auth@example.org:sha-256:off:7987c64c30e25f1b74be53f966b49b90f2808aa92faf9a00262392d7b4794232\n",
+        wanted: b"HTTP/1.1 401 Unauthorized\r\nDate: Thu, 01 Jan 1970 00:00:00 GMT\r\nWWW-Authenticate: Digest realm=\"http-auth@example.org\", nonce=\"AQAAAAAAAAAAAAAAAAAAAAAAAAAAAAAAAAAA\", algorithm=SHA-256, qop=\"auth\"\r\nContent-Length: 13\r\n\r\nUnauthorized\nHTTP/1.1 401 Unauthorized\r\nDate: Thu, 01 Jan 1970 00:00:00 GMT\r\nWWW-Authenticate: Digest realm=\"http-auth@example.org\", nonce=\"AQAAAAAAAAAAAAEAAAAAAAAAAAAAAAAAAAAA\", algorithm=SHA-256, qop=\"auth\"\r\nContent-Length: 13\r\n\r\nUnauthorized\n",
+        ..everyday_client()
+    }
+}
+
 /// A body that is waited for, without credentials.
 fn continued_put() -> Exchange {
     Exchange {
@@ -305,6 +314,7 @@ fn no_credentials_serve_for_others(rt: HostRuntime) -> Result<(), Fail> {
     let alloc = rt.alloc();
     check_exchange(&rt, alloc, &offers(), b"offers")?;
     check_exchange(&rt, alloc, &unknown_hash(), b"unknown hash")?;
+    check_exchange(&rt, alloc, &switched_off(), b"switched off")?;
     check_exchange(&rt, alloc, &other_target(), b"other target")?;
     Ok(())
 }

@@ -1,4 +1,4 @@
-//! The commands about secrets. The digest is that of md5sum.
+//! The commands about secrets. The digest is that of md5sum, and the keys are those of python's hashlib.
 use super::pipe::files_of;
 use super::{Failing, NONE, Ran, check, link_of, run_over};
 use auth_grammar::Octets;
@@ -7,7 +7,17 @@ use std::process::Abort;
 use std::test::Fail;
 
 fn store_text() -> &'static [u8] {
+    b"authstore 2\nMufasa:testrealm@host.com:md5:on:939e7578ed9e3c518a452acee763bce9\n"
+}
+
+/// The same in the first version.
+fn old_text() -> &'static [u8] {
     b"authstore 1\nMufasa:testrealm@host.com:md5:939e7578ed9e3c518a452acee763bce9\n"
+}
+
+/// The same with the entry off.
+fn off_text() -> &'static [u8] {
+    b"authstore 2\nMufasa:testrealm@host.com:md5:off:939e7578ed9e3c518a452acee763bce9\n"
 }
 
 fn spaces_text() -> &'static [u8] {
@@ -59,6 +69,12 @@ fn check_names_the_first_fault(rt: HostRuntime) -> Result<(), Fail> {
     // the store's text is refused before the file of the spaces is read
     let unsorted = ran(alloc, words, b"", &[(b"s", unsorted_text())], NONE)?;
     check(&rt, &unsorted, 3, b"", b"store line 3\n", b"`b` before `a`");
+    let flag: (&[u8], &[u8]) = (
+        b"s",
+        b"authstore 2\nMufasa:testrealm@host.com:md5:yes:939e7578ed9e3c518a452acee763bce9\n",
+    );
+    let no_flag = ran(alloc, words, b"", &[flag], NONE)?;
+    check(&rt, &no_flag, 3, b"", b"store line 2\n", b"another flag");
     let bad = ran(
         alloc,
         words,
@@ -253,5 +269,114 @@ fn a_fault_ends_passwd_with_status_4(rt: HostRuntime) -> Result<(), Fail> {
     let unwritten = ran(alloc, passwd_words(), b"Circle Of Life\n", &[], failing)?;
     check(&rt, &unwritten, 4, b"set", b"", b"a failing write");
     assert_eq!(rt; stored(&unwritten), store_text());
+    Ok(())
+}
+
+#[test]
+fn passwd_draws_a_salt_for_keys(rt: HostRuntime) -> Result<(), Fail> {
+    let alloc = rt.alloc();
+    let usual =
+        b"authstore 2\nuser:r:scram-sha-256:on:4096,AAAAAAAAAAAAAAAAAAAAAA==,cYb24178IFPJfwkjIWWOe5UyMYsPha0jpvVheOzD7fM=,VwyhxkJCO8QGAizhocQO03bRswvgJ9KCi+BMFMz6uvY=\n".as_slice();
+    let more =
+        b"authstore 2\nuser:r:scram-sha-256:on:5000,AAAAAAAAAAAAAAAAAAAAAA==,PDP6YymVcvAyiyPECI7OXfKqa/5t9rOF7jZd5uIYZQQ=,lsXxOO5mfItU6OUbO1ryz/NlQ9fF1kKS8mC5w1IO8+I=\n".as_slice();
+    for (words, wanted) in [
+        ("passwd s user r scram-sha-256", usual),
+        ("passwd s user r scram-sha-256 --rounds=4096", usual),
+        ("passwd s user r scram-sha-256 --rounds=5000", more),
+        ("passwd --rounds=5000 s user r scram-sha-256", more),
+        ("passwd s user --rounds=5000 r scram-sha-256", more),
+    ] {
+        let set = ran(alloc, words, b"pencil\n", &[], NONE)?;
+        check(
+            &rt,
+            &set,
+            0,
+            b"set user r scram-sha-256\n",
+            b"",
+            words.as_bytes(),
+        );
+        assert_eq!(rt; stored(&set), wanted, "{words}");
+    }
+    let failing = Failing { draw: 1, ..NONE };
+    let failed = ran(
+        alloc,
+        "passwd s user r scram-sha-256",
+        b"pencil\n",
+        &[],
+        failing,
+    )?;
+    check(&rt, &failed, 4, b"", b"", b"a failing draw");
+    assert_eq!(rt; failed.asked, 1);
+    check_absent(&rt, &failed, b"a failing draw");
+    Ok(())
+}
+
+#[test]
+fn a_name_is_switched_off_and_on(rt: HostRuntime) -> Result<(), Fail> {
+    let alloc = rt.alloc();
+    // the store is asked for, and replaced where something is to be changed
+    for (words, before, link, after, asked) in [
+        (
+            "disable s Mufasa testrealm@host.com",
+            old_text(),
+            b"disabled 1\n".as_slice(),
+            off_text(),
+            2,
+        ),
+        (
+            "enable s Mufasa testrealm@host.com",
+            off_text(),
+            b"enabled 1\n",
+            store_text(),
+            2,
+        ),
+        (
+            "disable s Nobody testrealm@host.com",
+            old_text(),
+            b"disabled 0\n",
+            old_text(),
+            1,
+        ),
+        (
+            "enable s a:b testrealm@host.com",
+            off_text(),
+            b"enabled 0\n",
+            off_text(),
+            1,
+        ),
+        ("migrate s", old_text(), b"migrated 1\n", store_text(), 2),
+        ("migrate s", off_text(), b"migrated 1\n", off_text(), 2),
+    ] {
+        let switched = ran(alloc, words, b"", &[(b"s", before)], NONE)?;
+        check(&rt, &switched, 0, link, b"", words.as_bytes());
+        assert_eq!(rt;
+            (stored(&switched), switched.asked),
+            (after, asked),
+            "{words}"
+        );
+    }
+    Ok(())
+}
+
+#[test]
+fn what_keeps_from_switching_leaves_the_store(rt: HostRuntime) -> Result<(), Fail> {
+    let alloc = rt.alloc();
+    for words in [
+        "disable s Mufasa testrealm@host.com",
+        "enable s Mufasa testrealm@host.com",
+        "migrate s",
+    ] {
+        let absent = ran(alloc, words, b"", &[], NONE)?;
+        check(&rt, &absent, 3, b"", b"store absent\n", words.as_bytes());
+        check_absent(&rt, &absent, words.as_bytes());
+        let unsorted = ran(alloc, words, b"", &[(b"s", unsorted_text())], NONE)?;
+        check(&rt, &unsorted, 3, b"", b"store line 3\n", words.as_bytes());
+        for file in 1..=2 {
+            let failing = Failing { file, ..NONE };
+            let failed = ran(alloc, words, b"", &[(b"s", old_text())], failing)?;
+            check(&rt, &failed, 4, b"", b"", words.as_bytes());
+            assert_eq!(rt; stored(&failed), old_text(), "{words}");
+        }
+    }
     Ok(())
 }

@@ -1,7 +1,6 @@
 use Rattle.std.proofs.Common.{Ok, Err, ◌∙◌, ap, refl}
 use Rattle.std.proofs.lemmas.Result.{err_from_is_err_and}
 use Rattle.connection_loop.specs.Account.{link_of}
-use Rattle.authd.proofs.Secrets.{secret_is}
 use Rattle.authd.proofs.passwd.set_password.Goals as goal
 
 pub returns-in_err-password-clause-sets : goal.returns-in_err-password-clause-sets
@@ -11,17 +10,14 @@ returns-in_err-password-clause-sets g c =
       Err c.in_err-password.field-0.0,
       c.in_err-password.ensures.password,
       c.in_err-password.ensures.written,
-      (refl, refl, p.1 ∙ ap Err p.2),
+      (refl, refl, refl, p.1 ∙ ap Err p.2),
     )
 
 pub returns-clause-sets : goal.returns-clause-sets
-returns-clause-sets g c =
-    let made = c.of_password-secret.ensures in
-    let text = rw c.bytes.ensures at made.text in
-    let same = secret_is c.of_password-secret.result c.args.alg _ made.algorithm text in (
-      link_of g.L.Link.left g.L.Link.given g.L.Link.written g.L.Link.reads c.read_password.new.link,
-      Ok c.in_ok-password.password,
-      c.in_ok-password.ensures.password,
-      c.in_ok-password.ensures.written,
-      rw same at c.set_secret.ensures.sets,
-    )
+returns-clause-sets g c = (
+  link_of g.L.Link.left g.L.Link.given g.L.Link.written g.L.Link.reads c.read_password.new.link,
+  Ok c.in_ok-password.password,
+  c.in_ok-password.ensures.password,
+  c.in_ok-password.ensures.written,
+  rw c.bytes.ensures at c.set_secret.ensures.sets,
+)

@@ -1,6 +1,6 @@
 use Rattle.std.proofs.Common.{◌≡◌, ◌≤◌, ◌-◌, length}
 use Rattle.std.specs.Io.KnownBytes.{Consumes}
-use Rattle.cred_store.specs.Texts.{HasNo}
+use Rattle.cred_store.specs.Values.{HasNo}
 use Rattle.authd.proofs.password.read_line.Given as goal
 
 abbrev pub invariant-loop-alloc : goal.invariant-loop-alloc

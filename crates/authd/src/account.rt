@@ -1,0 +1,16 @@
+//! Whose secret is to be set.
+ghost use Rattle.std.specs.Prelude.{◌≤◌};
+
+/// How many iterations the secret of a kind that has them takes, where no option says another count.
+pub(crate) const ROUNDS: u32 = 4_096;
+
+/// Whose secret is to be set: the name of the file of the store, a name, a realm, a kind and an iteration count.
+#[derive(Clone, Copy)]
+pub(crate) struct Account<'w> {
+    pub(crate) store: &'w [u8],
+    pub(crate) name: &'w [u8],
+    pub(crate) realm: &'w [u8],
+    pub(crate) kind: &'w [u8],
+    pub(crate) rounds: u32,
+    ghost some: { 1 ≤ rounds },
+}
