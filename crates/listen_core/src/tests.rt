@@ -1,4 +1,6 @@
 //! Two workers, over connections in memory that meet faults, and over real ones.
+mod shared;
+
 ghost use Rattle.std.specs.Prelude.{IfOk, All};
 ghost use Rattle.auth_io.specs.Memory.{IsUnused};
 
