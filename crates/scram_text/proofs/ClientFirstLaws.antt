@@ -3,53 +3,33 @@ use Rattle.std.proofs.Common.{◌≡◌, ◌≢◌, ◌==◌, ◌||◌, ◌+◌,
 use Rattle.std.proofs.lemmas.Bool.Decides.{Decides-eqb}
 use Rattle.auth_grammar.specs.Plain.{is_printable}
 use Rattle.scram_text.specs.Bytes.{escape, escaped, is_nonce_byte, some_of}
-use Rattle.scram_text.specs.ClientFirsts.{FirstParts, IsBare, IsBareText, IsClientFirst, IsClientFirstText, IsShort, SpellsClientFirst, bare_text, flag_letter, is_comma, is_flag}
+use Rattle.scram_text.specs.ClientFirsts.{FirstParts, IsBare, IsBareText, IsClientFirst, IsClientFirstText, IsShort, SpellsClientFirst, bare_text, is_comma}
+use Rattle.scram_text.specs.Flags.{flag_letter, is_flag}
 use Rattle.scram_text.specs.Contents.{WritesName}
 use Rattle.scram_text.specs.Parts.{BreaksOff, Ends, HoldsFirst, HoldsLast, IsAttribute, IsWith, LedBy, Then}
 use Rattle.scram_text.specs.Reaching.{Halts, Reaches}
 use Rattle.scram_text.specs.declared.attribute.Attribute.TheVariants.{Name, Nonce}
 use Rattle.scram_text.specs.declared.flag.Flag.{Flag}
 use Rattle.scram_text.specs.declared.flag.Flag.TheVariants.{N, Y}
-use Rattle.scram_text.proofs.AttributeLaws.{attribute_of, attribute_whole, with_is}
+use Rattle.scram_text.proofs.AttributeLaws.{with_is}
 use Rattle.scram_text.proofs.ExtensionLaws.{no_extensions}
+use Rattle.scram_text.proofs.AttributeForms.{content_in, cut_first, cut_last, first_in, first_word, is_letter_of, last_in, last_word}
 use Rattle.scram_text.proofs.FormLaws.{halts_off, halts_on, moved}
-use Rattle.scram_text.proofs.PartLaws.{then_off, then_on}
 use Rattle.scram_text.proofs.NameBytes.{Written, written, comma, equals, itself}
 use Rattle.scram_text.proofs.ByteTests.{same_or_not}
 
--- a text of each form
-nonce_word : (w : List ℕ) × Ends (IsAttribute Nonce) w
-nonce_word = ((attribute_of Nonce).0, record { part = (attribute_of Nonce).0; more = []; cut = sym (append-nil (attribute_of Nonce).0); is_part = (attribute_of Nonce).1; extensions = no_extensions })
-
+-- a text of the form
 bare_word : (w : List ℕ) × IsBareText w
-bare_word = ((attribute_of Name).0 ++ 44 ∷ nonce_word.0, record { part = (attribute_of Name).0; more = nonce_word.0; cut = refl; is_part = (attribute_of Name).1; is_more = nonce_word.1 })
-
--- bare stops at its name, or behind it
-pub stops_at_name : (text : List ℕ) (at : ℕ) → BreaksOff (IsAttribute Name) text at → Halts IsBareText text at
-stops_at_name text at off = then_off (IsAttribute Name) (attribute_whole Name) (Ends (IsAttribute Nonce)) nonce_word.0 nonce_word.1 text at off
-
-pub stops_behind_name : (text name rest : List ℕ) (at : ℕ) → HoldsFirst Name text name rest → Halts (Ends (IsAttribute Nonce)) rest at → Halts IsBareText text (length text - length rest + at)
-stops_behind_name text name rest at holds halts =
-    let on = then_on (IsAttribute Name) (attribute_whole Name) (Ends (IsAttribute Nonce)) holds.part rest at (with_is Name holds.part name holds.is) halts in
-    let P : List ℕ → Type 0 = λ t. Halts IsBareText t (length text - length rest + at) in
-    subst P (sym holds.cut) (moved IsBareText (holds.part ++ 44 ∷ rest) (length holds.part + (1 + at)) (length text - length rest + at)
-    (let e : length text ≡ length holds.part + (1 + length rest) = ap length holds.cut ∙ length-append holds.part (44 ∷ rest) ∙ omega arith in omega arith) on)
+bare_word = first_word Name (Ends (IsAttribute Nonce)) (last_word Nonce).0 (last_word Nonce).1
 
 -- a name, a comma and a nonce make it
 pub makes_bare : (text name rest nonce : List ℕ) → HoldsFirst Name text name rest → HoldsLast Nonce rest nonce → IsBare text name nonce
 makes_bare text name rest nonce first last = record {
   extensions = last.more;
-  cut = first.cut ∙ ap (λ (p : List ℕ). p ++ 44 ∷ rest) first.is.cut ∙ (let l : first.is.letter ≡ 110 = letter_n first.is.letter first.is.has in ap (λ (x : ℕ). x ∷ 61 ∷ (name ++ 44 ∷ rest)) l)
-      ∙ ap (λ (r : List ℕ). 110 ∷ 61 ∷ (name ++ 44 ∷ r)) (last.cut ∙ ap (λ (p : List ℕ). p ++ last.more) last.is.cut ∙ (let l : last.is.letter ≡ 114 = letter_r last.is.letter last.is.has in ap (λ (x : ℕ). x ∷ 61 ∷ (nonce ++ last.more)) l));
+  cut = cut_first Name 110 text name rest (is_letter_of 110) first ∙ ap (λ (r : List ℕ). 110 ∷ 61 ∷ (name ++ 44 ∷ r)) (cut_last Nonce 114 rest nonce (is_letter_of 114) last);
   is_nonce = last.is.holds;
   are_extensions = last.extensions;
 }
-  where
-    letter_n : (b : ℕ) → (b == 110) ≡ true → b ≡ 110
-    letter_n b is = (Decides-eqb b 110).0 is
-
-    letter_r : (b : ℕ) → (b == 114) ≡ true → b ≡ 114
-    letter_r b is = (Decides-eqb b 114).0 is
 
 -- the flag, and the commas behind it
 flag_known : (b : ℕ) → is_flag b ≡ true → (flag : Flag) × (b ≡ flag_letter flag)
@@ -132,22 +112,15 @@ form_of text parts spells = record {
   };
 }
 
--- an attribute's content
-content_in : (part : List ℕ) → IsAttribute Name part → (content : List ℕ) × IsWith Name part content
-content_in part is = (is.follows.more, record { letter = is.first; cut = is.cut ∙ ap (λ (w : List ℕ). is.first ∷ w) is.follows.cut ∙ ap (λ (x : ℕ). is.first ∷ x ∷ is.follows.more) ((Decides-eqb is.follows.first 61).0 is.follows.leads); has = is.leads; holds = is.follows.follows })
-
-nonce_in : (part : List ℕ) → IsAttribute Nonce part → (content : List ℕ) × IsWith Nonce part content
-nonce_in part is = (is.follows.more, record { letter = is.first; cut = is.cut ∙ ap (λ (w : List ℕ). is.first ∷ w) is.follows.cut ∙ ap (λ (x : ℕ). is.first ∷ x ∷ is.follows.more) ((Decides-eqb is.follows.first 61).0 is.follows.leads); has = is.leads; holds = is.follows.follows })
-
 pub spelled_by : (text : List ℕ) → IsClientFirstText text → (parts : FirstParts) × SpellsClientFirst text parts
 spelled_by text is =
     let flag = flag_known is.first is.leads in
     let bare = is.follows.follows.more in
     let form = is.follows.follows.follows in
-    let name = content_in form.part form.is_part in
-    let nonce = nonce_in form.is_more.part form.is_more.is_part in
-    let first : HoldsFirst Name bare name.0 form.more = record { part = form.part; cut = form.cut; is = name.1 } in
-    let last : HoldsLast Nonce form.more nonce.0 = record { part = form.is_more.part; more = form.is_more.more; cut = form.is_more.cut; is = nonce.1; extensions = form.is_more.extensions } in (
+    let name = content_in Name form.part form.is_part in
+    let nonce = content_in Nonce form.is_more.part form.is_more.is_part in
+    let first = first_in Name (Ends (IsAttribute Nonce)) bare form in
+    let last = last_in Nonce form.more form.is_more in (
       record { flag = flag.0; name = name.1.holds.0; nonce = nonce.0; bare = bare },
       record {
         written = name.0;

@@ -1,7 +1,8 @@
 -- A text is one client-first message at most.
 use Rattle.std.proofs.Common.{◌≡◌, ◌==◌, ℕ, Bool, true, List, [], ◌∷◌, ◌++◌, refl, sym, ◌∙◌, ap, subst, append-nil, arith}
 use Rattle.scram_text.specs.Bytes.{HasNoComma, escaped, is_nonce_byte, some_of}
-use Rattle.scram_text.specs.ClientFirsts.{FirstParts, IsBare, SpellsClientFirst, flag_letter}
+use Rattle.scram_text.specs.ClientFirsts.{FirstParts, IsBare, SpellsClientFirst}
+use Rattle.scram_text.specs.Flags.{flag_letter}
 use Rattle.std.specs.Prelude.{IfOk}
 use Rattle.std.specs.declared.result.Result.{Result}
 use Rattle.std.specs.declared.result.Result.TheVariants.{Ok, Err}
@@ -18,7 +19,7 @@ use Rattle.scram_text.proofs.ExtensionLaws.{at_comma}
 use Rattle.scram_text.proofs.PartLaws.{parted}
 use Rattle.scram_text.proofs.WrittenNames.{escape_some, goes_on}
 
-flag_unique : (f g : Flag) → flag_letter f ≡ flag_letter g → f ≡ g
+pub flag_unique : (f g : Flag) → flag_letter f ≡ flag_letter g → f ≡ g
 flag_unique N N same = refl
 flag_unique Y Y same = refl
 flag_unique N Y same = absurd (omega (arith, same))
@@ -34,7 +35,7 @@ name_unique text a b wa wb =
     go [] whole left = sym (whole ∙ append-nil a)
     go (c ∷ tail) whole left = absurd (escape_some c (escaped tail) (sym left))
 
-tail_of : {x y : ℕ} {s t : List ℕ} → x ∷ s ≡ y ∷ t → s ≡ t
+pub tail_of : {x y : ℕ} {s t : List ℕ} → x ∷ s ≡ y ∷ t → s ≡ t
 tail_of same = cc
 
 -- what stands behind the flag has one name and one nonce

@@ -2,8 +2,9 @@
 use Rattle.std.proofs.Common.{◌≡◌, ◌≢◌, ◌+◌, ◌-◌, ℕ, List, [], ◌∷◌, ◌++◌, refl, sym, ◌∙◌, ap, subst, length, length-append, append_assoc, append-nil, arith}
 use Rattle.std.specs.List.{AllByRecursion, flat_map}
 use Rattle.scram_text.specs.Bytes.{HasNoComma}
-use Rattle.scram_text.specs.Parts.{AreExtensions, Ends, FirstPart, IsAtComma, IsAttribute, behind_commas}
+use Rattle.scram_text.specs.Parts.{AreAll, AreExtensions, Ends, FirstPart, IsAtComma, IsAttribute, behind_commas}
 use Rattle.scram_text.specs.Reaching.{Halts, Reaches}
+use Rattle.scram_text.specs.declared.attribute.Attribute.{Attribute}
 use Rattle.scram_text.specs.declared.attribute.Attribute.TheVariants.{Extension}
 use Rattle.scram_text.proofs.AttributeLaws.{attribute_whole}
 use Rattle.scram_text.proofs.PartLaws.{inside_part, parted}
@@ -12,13 +13,16 @@ use Rattle.scram_text.proofs.PartLaws.{inside_part, parted}
 pub no_extensions : AreExtensions []
 no_extensions = record { parts = []; cut = refl; each = tt }
 
--- extensions begin with a comma, or aren't there
-pub at_comma : (text : List ℕ) → AreExtensions text → IsAtComma text
-at_comma text are = go are.parts are.cut
+-- such attributes begin with a comma, or aren't there
+pub all_at_comma : (a : Attribute) (text : List ℕ) → AreAll a text → IsAtComma text
+all_at_comma a text are = go are.parts are.cut
   where
     go : (parts : List (List ℕ)) → text ≡ behind_commas parts → IsAtComma text
     go [] cut = subst IsAtComma (sym cut) tt
     go (part ∷ parts) cut = subst IsAtComma (sym cut) refl
+
+pub at_comma : (text : List ℕ) → AreExtensions text → IsAtComma text
+at_comma text are = all_at_comma Extension text are
 
 -- the text behind the first comma is an extension, and more of them
 pub behind_first : (text : List ℕ) → AreExtensions (44 ∷ text) → Ends (IsAttribute Extension) text

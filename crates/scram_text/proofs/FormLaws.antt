@@ -49,3 +49,15 @@ module _ {X : Type 0} (Spells : List ℕ → X → Type 0) (Form : List ℕ → 
         where
           one : (m : ℕ) → take (1 + m) (b ∷ left) ≡ b ∷ take m left
           one m = let e : 1 + m ≡ suc m = omega arith in rw e refl
+
+-- two forms of the same texts
+pub same_reach : (F G : List ℕ → Type 0) → ((t : List ℕ) → F t → G t) → ((t : List ℕ) → G t → F t) → (text : List ℕ) (at : ℕ) → Reaches F text at → Reaches G text at
+same_reach F G to from text at reach = record {
+  front = reach.front;
+  back = reach.back;
+  cut = reach.cut;
+  long = reach.long;
+  rest = reach.rest;
+  lives = to (reach.front ++ reach.rest) reach.lives;
+  stuck = λ b left more e is. reach.stuck b left more e (from (reach.front ++ b ∷ more) is);
+}

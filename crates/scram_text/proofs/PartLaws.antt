@@ -46,6 +46,11 @@ parted (x ∷ p) (y ∷ q) s t whole whole2 at at2 same =
     let first : x ≡ y = cc in
     let e = next.0 in (cc, next.1)
 
+-- what stands behind the same front
+pub same_front : (front s t : List ℕ) → front ++ s ≡ front ++ t → s ≡ t
+same_front [] s t same = same
+same_front (x ∷ front) s t same = same_front front s t cc
+
 -- what has no comma lies inside the first part
 pub inside : (front more p s : List ℕ) → HasNoComma front → IsAtComma s → front ++ more ≡ p ++ s → (rest : List ℕ) × (p ≡ front ++ rest)
 inside [] more p s whole at same = (p, refl)

@@ -36,7 +36,7 @@ overlap (x ∷ a) b (y ∷ c) d same =
     ]
 
 -- a list is empty, or has a last one
-last_one : (x : List ℕ) → (x ≡ []) ⊎ ((front : List ℕ) × (last : ℕ) × (x ≡ front ++ last ∷ []))
+pub last_one : (x : List ℕ) → (x ≡ []) ⊎ ((front : List ℕ) × (last : ℕ) × (x ≡ front ++ last ∷ []))
 last_one [] = inl refl
 last_one (b ∷ x) = elim (last_one x) [
   | inl none ↦ inr ([], b, ap (λ (w : List ℕ). b ∷ w) none)

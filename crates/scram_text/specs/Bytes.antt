@@ -1,8 +1,10 @@
 -- The bytes of names, nonces and values (RFC 5802 section 7).
-use Rattle.std.specs.Prelude.{◌≡◌, ℕ, Bool, ◌==◌, ◌&&◌, ◌||◌, not, nat_le, List, [], ◌∷◌, false, if◌then◌else◌}
+use Rattle.std.specs.Prelude.{◌≡◌, ◌≤◌, ◌<◌, ◌^◌, ℕ, Bool, ◌==◌, ◌&&◌, ◌||◌, not, nat_le, List, [], ◌∷◌, length, false, if◌then◌else◌}
 use Rattle.std.specs.Char.{is_ascii_digit}
 use Rattle.std.specs.List.{flat_map, list_all, list_any}
 use Rattle.auth_grammar.specs.Plain.{is_printable}
+use Rattle.base64.specs.Engines.{standard}
+use Rattle.base64.specs.GeneralPurpose.{IsBytes, encode_of}
 
 -- one byte or more, all of which pass the test
 abbrev pub some_of : (ℕ → Bool) → List ℕ → Bool
@@ -34,3 +36,22 @@ escaped name = flat_map escape name
 -- a base64 character other than the padding
 abbrev pub is_symbol : ℕ → Bool
 is_symbol b = is_letter b || is_ascii_digit b || (b == 43) || (b == 47)
+
+-- base64 with padding (RFC 4648 section 4)
+abbrev pub base64_text : List ℕ → List ℕ
+base64_text bytes = encode_of standard bytes
+
+-- a salt has a byte
+pub record IsSalt (salt : List ℕ) : Type 0 where
+  pub some : 1 ≤ length salt
+  pub bytes : IsBytes salt
+
+-- what SHA-256 gives has 32 bytes
+pub record IsDigest (digest : List ℕ) : Type 0 where
+  pub long : length digest ≡ 32
+  pub bytes : IsBytes digest
+
+-- an iteration count
+pub record IsCount (i : ℕ) : Type 0 where
+  pub some : 1 ≤ i
+  pub fits : i < 2 ^ 32

@@ -3,16 +3,11 @@ use Rattle.std.specs.Prelude.{◌≡◌, ◌≤◌, ◌<◌, ◌+◌, ℕ, Bool,
 use Rattle.auth_grammar.specs.Reach.{Stops}
 use Rattle.scram_text.specs.Bytes.{escaped, is_nonce_byte, some_of}
 use Rattle.scram_text.specs.Contents.{WritesName}
+use Rattle.scram_text.specs.Flags.{flag_letter, is_flag}
 use Rattle.scram_text.specs.Parts.{AreExtensions, Ends, IsAttribute, LedBy, Then}
 use Rattle.scram_text.specs.declared.attribute.Attribute.TheVariants.{Name as NamePart, Nonce as NoncePart}
 use Rattle.scram_text.specs.declared.flag.Flag.{Flag}
-use Rattle.scram_text.specs.declared.flag.Flag.TheVariants.{N, Y}
 use Rattle.scram_text.specs.declared.limits.TheConstants.{BARE_LIMIT, NAME_LIMIT, NONCE_LIMIT}
-
--- the letter of a flag
-abbrev pub flag_letter : Flag → ℕ
-flag_letter N = 110
-flag_letter Y = 121
 
 -- n=name,r=nonce and extensions, the name as it is written
 pub record IsBare (text written nonce : List ℕ) : Type 0 where
@@ -54,9 +49,6 @@ pub record IsClientFirst (parts : FirstParts) : Type 0 where
 -- the same of a text alone, part by part
 abbrev pub IsBareText : List ℕ → Type 0
 IsBareText = Then (IsAttribute NamePart) (Ends (IsAttribute NoncePart))
-
-abbrev pub is_flag : ℕ → Bool
-is_flag b = (b == 110) || (b == 121)
 
 abbrev pub is_comma : ℕ → Bool
 is_comma b = b == 44

@@ -1,8 +1,16 @@
 pub mod Reaching
 pub mod Bytes
+pub mod Flags
+pub mod Base64Places
 pub mod Names
 pub mod Contents
 pub mod Parts
 pub mod ClientFirsts
 pub mod ClientFirstAnswers
+pub mod ServerFirsts
+pub mod ServerFirstAnswers
+pub mod ClientFinals
+pub mod ClientFinalAnswers
+pub mod ServerFinals
+pub mod ServerFinalAnswers
 pub mod Reauths

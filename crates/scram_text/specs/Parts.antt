@@ -5,7 +5,7 @@ use Rattle.scram_text.specs.Bytes.{HasNoComma}
 use Rattle.scram_text.specs.Contents.{Holds, has_letter}
 use Rattle.scram_text.specs.Reaching.{Reaches}
 use Rattle.scram_text.specs.declared.attribute.Attribute.{Attribute}
-use Rattle.scram_text.specs.declared.attribute.Attribute.TheVariants.{Extension}
+use Rattle.scram_text.specs.declared.attribute.Attribute.TheVariants.{Extension, Inner, Proof}
 
 -- a byte that passes the test, and then a text of the form
 pub record LedBy (test : ℕ → Bool) (Form : List ℕ → Type 0) (text : List ℕ) : Type 0 where
@@ -31,11 +31,34 @@ pub record Then (Part More : List ℕ → Type 0) (text : List ℕ) : Type 0 whe
 abbrev pub behind_commas : List (List ℕ) → List ℕ
 behind_commas parts = flat_map (λ part. 44 ∷ part) parts
 
--- any number of extensions
-pub record AreExtensions (text : List ℕ) : Type 0 where
+-- any number of such attributes
+pub record AreAll (attribute : Attribute) (text : List ℕ) : Type 0 where
   pub parts : List (List ℕ)
   pub cut : text ≡ behind_commas parts
-  pub each : AllByRecursion (IsAttribute Extension) parts
+  pub each : AllByRecursion (IsAttribute attribute) parts
+
+-- extensions, and those that a proof may follow
+abbrev pub AreExtensions : List ℕ → Type 0
+AreExtensions = AreAll Extension
+
+abbrev pub AreInner : List ℕ → Type 0
+AreInner = AreAll Inner
+
+-- parts with a comma behind each
+abbrev pub before_commas : List (List ℕ) → List ℕ
+before_commas parts = flat_map (λ part. part ++ 44 ∷ []) parts
+
+-- extensions with a comma behind each stand before the rest
+pub record StandBefore (rest text : List ℕ) : Type 0 where
+  pub parts : List (List ℕ)
+  pub cut : text ≡ before_commas parts ++ rest
+  pub each : AllByRecursion (IsAttribute Inner) parts
+
+-- any number of extensions, and then the proof
+pub record IsTail (text : List ℕ) : Type 0 where
+  pub last : List ℕ
+  pub before : StandBefore last text
+  pub is_last : IsAttribute Proof last
 
 -- a last part of the form, and extensions
 pub record Ends (Part : List ℕ → Type 0) (text : List ℕ) : Type 0 where
@@ -84,3 +107,14 @@ pub record HoldsLast (attribute : Attribute) (text content : List ℕ) : Type 0 
   pub cut : text ≡ part ++ more
   pub is : IsWith attribute part content
   pub extensions : AreExtensions more
+
+-- the text is extensions, and the proof that holds the content
+pub record HoldsTail (text content : List ℕ) : Type 0 where
+  pub last : List ℕ
+  pub before : StandBefore last text
+  pub is : IsWith Proof last content
+
+-- a mandatory extension stands first
+pub record IsMandatory (text : List ℕ) : Type 0 where
+  pub more : List ℕ
+  pub cut : text ≡ 109 ∷ 61 ∷ more

@@ -4,7 +4,10 @@ ghost use Rattle.scram_text.specs.Contents.{Holds, has_letter};
 ghost use Rattle.scram_text.specs.Parts.{IsAttribute, IsWith};
 ghost use Rattle.scram_text.specs.Reaching.{Reaches};
 
+use crate::base64_texts::{digest_reach, is_digest_text, is_salt_text, salt_reach};
 use crate::bytes::first_byte;
+use crate::counts::{count_of, count_reach};
+use crate::flag::{binding_reach, bound_flag};
 use crate::names::{is_written_name, name_reach};
 use crate::runs::{Class, is_run, run_reach};
 use auth_grammar::behind;
@@ -18,6 +21,20 @@ pub(crate) enum Attribute {
     Nonce,
     /// Any letter and a value, which whoever reads it ignores.
     Extension,
+    /// The same with any letter but `p`.
+    Inner,
+    /// `c`, the header of the first message in base64.
+    Binding,
+    /// `s`, in base64.
+    Salt,
+    /// `i`, the iteration count.
+    Count,
+    /// `p`, in base64.
+    Proof,
+    /// `v`, in base64.
+    Signature,
+    /// `e`, why there is no signature.
+    Fault,
 }
 
 impl Attribute {
@@ -59,6 +76,13 @@ impl Attribute {
             Attribute::Name => byte == b'n',
             Attribute::Nonce => byte == b'r',
             Attribute::Extension => byte.is_ascii_alphabetic(),
+            Attribute::Inner => byte.is_ascii_alphabetic() && byte != b'p',
+            Attribute::Binding => byte == b'c',
+            Attribute::Salt => byte == b's',
+            Attribute::Count => byte == b'i',
+            Attribute::Proof => byte == b'p',
+            Attribute::Signature => byte == b'v',
+            Attribute::Fault => byte == b'e',
         }
     }
 
@@ -70,6 +94,13 @@ impl Attribute {
             Attribute::Name => is_written_name(text),
             Attribute::Nonce => is_run(Class::Nonce, text),
             Attribute::Extension => is_run(Class::Value, text),
+            Attribute::Inner => is_run(Class::Value, text),
+            Attribute::Fault => is_run(Class::Value, text),
+            Attribute::Binding => bound_flag(text).is_some(),
+            Attribute::Salt => is_salt_text(text),
+            Attribute::Count => count_of(text).is_some(),
+            Attribute::Proof => is_digest_text(text),
+            Attribute::Signature => is_digest_text(text),
         }
     }
 
@@ -82,6 +113,13 @@ impl Attribute {
             Attribute::Name => name_reach(text),
             Attribute::Nonce => run_reach(Class::Nonce, text),
             Attribute::Extension => run_reach(Class::Value, text),
+            Attribute::Inner => run_reach(Class::Value, text),
+            Attribute::Fault => run_reach(Class::Value, text),
+            Attribute::Binding => binding_reach(text),
+            Attribute::Salt => salt_reach(text),
+            Attribute::Count => count_reach(text),
+            Attribute::Proof => digest_reach(text),
+            Attribute::Signature => digest_reach(text),
         }
     }
 }

@@ -3,6 +3,7 @@ ghost use Rattle.std.specs.Prelude.{◌≡◌, ◌≤◌, ◌∷◌, ◌++◌, �
 ghost use Rattle.auth_grammar.specs.Plain.{is_printable};
 ghost use Rattle.scram_text.specs.Bytes.{escaped, is_nonce_byte, some_of};
 ghost use Rattle.scram_text.specs.ClientFirsts.{IsClientFirst};
+ghost use Rattle.scram_text.specs.declared.limits.TheConstants.{NONCE_LIMIT};
 
 use crate::client_first_parts::{bare_parts, flagged};
 use crate::client_first_reading::{message_of, refused};
@@ -21,11 +22,14 @@ pub struct ClientFirst {
     pub nonce: Octets,
     /// The text behind the flag, extensions and all, which both sides hash.
     pub bare: Octets,
+    pub ghost is_nonce: { some_of is_nonce_byte nonce ≡ true },
+    pub ghost short_nonce: { length nonce ≤ NONCE_LIMIT },
     ghost spelled: { ∥ IsClientFirst (record { flag = flag; name = name; nonce = nonce; bare = bare }) ∥₁ },
 }
 
 impl ClientFirst {
-    ghost use Rattle.scram_text.specs.ClientFirsts.{FirstParts, SpellsClientFirst, bare_text, flag_letter};
+    ghost use Rattle.scram_text.specs.ClientFirsts.{FirstParts, SpellsClientFirst, bare_text};
+    ghost use Rattle.scram_text.specs.Flags.{flag_letter};
     ghost use Rattle.scram_text.specs.ClientFirstAnswers.{AnswersClientFirst, parts_of};
 
     /// The message of a name and a nonce, without extensions. The password's user name is taken as it is, with no

@@ -1,6 +1,7 @@
 //! The parts of a client's first message.
 ghost use Rattle.std.specs.Prelude.{◌≡◌, ◌≤◌, ◌∷◌, ℕ, List, length, IfErr, IfOk};
-ghost use Rattle.scram_text.specs.ClientFirsts.{IsBare, IsBareText, IsClientFirstText, flag_letter};
+ghost use Rattle.scram_text.specs.ClientFirsts.{IsBare, IsBareText, IsClientFirstText};
+ghost use Rattle.scram_text.specs.Flags.{flag_letter};
 ghost use Rattle.scram_text.specs.Contents.{WritesName};
 ghost use Rattle.scram_text.specs.Reaching.{Halts};
 

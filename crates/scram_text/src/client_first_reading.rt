@@ -1,6 +1,7 @@
 //! What a client's first message is refused for, and the message.
 ghost use Rattle.std.specs.Prelude.{◌≡◌, ◌≤◌, ◌∷◌, ℕ, List, length, IfNone, IfSome};
-ghost use Rattle.scram_text.specs.ClientFirsts.{IsBare, IsPlainFirst, flag_letter};
+ghost use Rattle.scram_text.specs.ClientFirsts.{IsBare, IsPlainFirst};
+ghost use Rattle.scram_text.specs.Flags.{flag_letter};
 ghost use Rattle.scram_text.specs.ClientFirstAnswers.{AnswersClientFirst, Fits, RefusesClientFirst};
 ghost use Rattle.scram_text.specs.Contents.{WritesName};
 

@@ -1,6 +1,12 @@
 //! Whether a client knows of channel binding.
-ghost use Rattle.std.specs.Prelude.{◌≡◌, ◌∷◌, [], false, IfNone, IfSome};
-ghost use Rattle.scram_text.specs.ClientFirsts.{flag_letter, is_flag};
+ghost use Rattle.std.specs.Prelude.{◌≡◌, ◌≤◌, ◌∷◌, [], false, length, IfNone, IfSome};
+ghost use Rattle.scram_text.specs.Contents.{WritesHeader};
+ghost use Rattle.scram_text.specs.Reaching.{Reaches};
+ghost use Rattle.scram_text.specs.declared.flag.Flag.{Flag};
+ghost use Rattle.scram_text.specs.Flags.{flag_letter, is_flag};
+
+use crate::bytes::farther;
+use crate::runs::word_reach;
 
 /// The flag of a client that binds no channel (RFC 5802 section 7: gs2-cbind-flag).
 #[derive(Debug, Drop, Clone, Copy, PartialEq, Eq)]
@@ -21,6 +27,41 @@ impl Flag {
             Flag::Y => b"y,,",
         }
     }
+
+    /// The same in base64, which the last message has (RFC 5802 section 7: channel-binding).
+    pub(crate) fn binding(self) -> &'static [u8]
+        ensures { WritesHeader result.now self }
+    {
+        match self {
+            Flag::N => b"biws",
+            Flag::Y => b"eSws",
+        }
+    }
+}
+
+/// The flag whose header the text is.
+pub(crate) fn bound_flag(text: &[u8]) -> Option<Flag>
+    ensures some { IfSome result (λ flag. WritesHeader text.now flag) }
+    ensures none { IfNone result ((flag : Flag) → WritesHeader text.now flag → ⊥) }
+{
+    if text == Flag::N.binding() {
+        return Some(Flag::N);
+    }
+    if text == Flag::Y.binding() {
+        return Some(Flag::Y);
+    }
+    None
+}
+
+/// How far the text could go on as one.
+pub(crate) fn binding_reach(text: &[u8]) -> usize
+    ensures reach { Reaches (λ t. (flag : Flag) × WritesHeader t flag) text.now result }
+    ensures within { result ≤ length text.now }
+{
+    farther(
+        word_reach(Flag::N.binding(), text),
+        word_reach(Flag::Y.binding(), text),
+    )
 }
 
 /// The flag of a letter.

@@ -1,11 +1,12 @@
 //! The nonce of a reauthentication (RFC 7804 section 5.1).
-ghost use Rattle.std.specs.Prelude.{◌≡◌, ◌≢◌, ◌≤◌, ◌<◌, ◌^◌, ◌++◌, ℕ, List, true, decimal, length, IfNone, IfOk, IfSome, MatchOption};
+ghost use Rattle.std.specs.Prelude.{◌≡◌, ◌<◌, ◌++◌, ℕ, List, true, length, IfNone, IfOk, IfSome, MatchOption};
 ghost use Rattle.std.specs.Char.{is_ascii_digit};
 ghost use Rattle.std.specs.List.{list_all};
 ghost use Rattle.scram_text.specs.Reauths.{EndsDigit, EndsPlain, IsReauth, reauth_text};
 
+use crate::counts::count_of;
 use crate::runs::{Class, all_of, is_run};
-use auth_grammar::{Octets, OutOfMemory, decimal_of};
+use auth_grammar::{Octets, OutOfMemory};
 use itoa::Buffer;
 use std::alloc::Global;
 
@@ -109,22 +110,4 @@ fn before_digit(text: &[u8]) -> Option<&[u8]>
         [front @ .., last] if last.is_ascii_digit() => Some(front),
         _ => None,
     }
-}
-
-/// The number from 1 on that the text writes in decimal digits.
-fn count_of(text: &[u8]) -> Option<u32>
-    ensures some { IfSome result (λ n. text.now ≡ decimal n) }
-    ensures above { IfSome result (λ n. 1 ≤ n) }
-    ensures none { IfNone result ((n : ℕ) → 1 ≤ n → n < 2 ^ 32 → text.now ≢ decimal n) }
-{
-    let Some(number) = decimal_of(text) else {
-        return None;
-    };
-    if number == 0 {
-        return None;
-    }
-    if number > u32::MAX as u64 {
-        return None;
-    }
-    Some(number as u32)
 }

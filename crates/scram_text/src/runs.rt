@@ -17,7 +17,7 @@ pub(crate) enum Class {
 }
 
 impl Class {
-    fn has(self, byte: u8) -> bool
+    pub(crate) fn has(self, byte: u8) -> bool
         ensures { result ≡ is_of self byte }
     {
         match self {
@@ -52,6 +52,22 @@ pub(crate) fn run_reach(class: Class, text: &[u8]) -> usize
 {
     for (at, byte) in text.iter().enumerate() {
         if !class.has(*byte) {
+            return at;
+        }
+    }
+    text.len()
+}
+
+/// How far the text could go on as the word.
+pub(crate) fn word_reach(word: &[u8], text: &[u8]) -> usize
+    ensures reach { Reaches (λ t. t ≡ word.now) text.now result }
+    ensures within { result ≤ length text.now }
+{
+    for (at, byte) in text.iter().enumerate() {
+        if at >= word.len() {
+            return at;
+        }
+        if word[at] != *byte {
             return at;
         }
     }

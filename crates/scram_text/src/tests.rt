@@ -1,7 +1,8 @@
 //! Texts and what their readers say.
-use crate::{ClientFirst, Flag, ReauthNonce};
+use crate::{ClientFinal, ClientFirst, Flag, ReauthNonce, ScramError, ServerFinal, ServerFirst};
 use auth_grammar::Octets;
 use std::alloc::{AllocError, Global};
+use std::process::Abort;
 use std::test::Fail;
 
 /// Client-first texts: RFC 5802 section 7's form, with each refusal.
@@ -31,27 +32,151 @@ const CLIENT_FIRST: [(&str, &str); 20] = [
     ("", "no message at 0"),
 ];
 
-/// What is said of a client-first text.
-fn told(alloc: Global, text: &[u8]) -> Result<String, AllocError> {
-    match ClientFirst::read(alloc, text) {
-        Ok(_) => format!(in alloc; "read"),
+/// Server-first texts (RFC 5802 section 7).
+const SERVER_FIRST: [(&str, &str); 14] = [
+    ("r=abc,s=W22ZaJ0SNY7soEsUEjb6gQ==,i=4096", "read"),
+    (
+        "r=abc,s=W22ZaJ0SNY7soEsUEjb6gQ==,i=04096",
+        "no message at 35",
+    ),
+    ("r=abc,s=AAAA,i=4294967295,x=1,m=2", "read"),
+    ("r=abc,s=AAAA,i=4294967296", "no message at 24"),
+    ("r=abc,s=AAAA,i=0", "no message at 15"),
+    ("r=abc,s=AAAA,i=1,x=", "no message at 19"),
+    ("r=abc,s=,i=1", "no message at 8"),
+    ("r=abc,s=AB==,i=1", "no message at 10"),
+    ("r=abc,s=AAB=,i=1", "no message at 11"),
+    ("r=abc,s=AAA=A", "no message at 12"),
+    ("m=x,r=abc,s=AAAA,i=1", "mandatory extension"),
+    ("r=abc,m=x,s=AAAA,i=1", "no message at 6"),
+    ("s=AAAA,r=abc,i=1", "no message at 0"),
+    (
+        "r=aaaaaaaaaaaaaaaaaaaaaaaaaaaaaaaaaaaaaaaaaaaaaaaaaaaaaaaaaaaaaaaaaaaaaaaaaaaaaaaaaaaaaaaaaaaaaaaaaaaaaaaaaaaaaaaaaaaaaaaaaaaaaaaaaaaaaaaaaaaaaaaaaaaaaaaaaaaaaaaaaaaaaaaaaaaaaaaaaaaaaaaaaaaaaaaaaaaaaaaaaaaaaaaaaaaaaaaaaaaaaaaaaaaaaaaaaaaaaaaaaaaaaaaaaaaaaaa",
+        "First is longer than 256",
+    ),
+];
+
+/// Client-final texts.
+const CLIENT_FINAL: [(&str, &str); 10] = [
+    (
+        "c=biws,r=abc,p=dHzbZapWIk4jUhN+Ute9ytag9zjfMHgsqmmiz7AndVQ=",
+        "read",
+    ),
+    (
+        "c=eSws,r=abc,x=1,m=y,p=dHzbZapWIk4jUhN+Ute9ytag9zjfMHgsqmmiz7AndVQ=",
+        "read",
+    ),
+    (
+        "c=bizs,r=abc,p=dHzbZapWIk4jUhN+Ute9ytag9zjfMHgsqmmiz7AndVQ=",
+        "no message at 4",
+    ),
+    (
+        "m=x,c=biws,r=abc,p=dHzbZapWIk4jUhN+Ute9ytag9zjfMHgsqmmiz7AndVQ=",
+        "mandatory extension",
+    ),
+    (
+        "c=biws,r=abc,p=dHzbZapWIk4jUhN+Ute9ytag9zjfMHgsqmmiz7AndVQ=,x=1",
+        "no message at 59",
+    ),
+    ("c=biws,r=abc", "no message at 12"),
+    (
+        "c=biws,r=abc,1=x,p=dHzbZapWIk4jUhN+Ute9ytag9zjfMHgsqmmiz7AndVQ=",
+        "no message at 13",
+    ),
+    ("c=biws,r=abc,p=AAAA", "no message at 19"),
+    (
+        "c=biws,r=abc,p=dHzbZapWIk4jUhN+Ute9ytag9zjfMHgsqmmiz7AndVR=",
+        "no message at 57",
+    ),
+    ("n,,n=user,r=abc", "no message at 0"),
+];
+
+/// Server-final texts.
+const SERVER_FINAL: [(&str, &str); 9] = [
+    (
+        "v=6rriTRBi23WpRR/wtup+mMhUZUn/dB5nLTJRsjl95G4=",
+        "signature",
+    ),
+    (
+        "v=6rriTRBi23WpRR/wtup+mMhUZUn/dB5nLTJRsjl95G4=,m=1",
+        "signature",
+    ),
+    (
+        "v=6rriTRBi23WpRR/wtup+mMhUZUn/dB5nLTJRsjl95G4=,",
+        "no message at 47",
+    ),
+    ("v=rmF9pqV8S7suAoZWja4dJRkFsKQ=", "no message at 29"),
+    ("e=other-error", "fault"),
+    ("e=other-error,x=y", "fault"),
+    ("e=,x=y", "no message at 2"),
+    ("m=x,e=other-error", "no message at 0"),
+    ("", "no message at 0"),
+];
+
+/// The kinds of message.
+#[derive(Drop, Clone, Copy)]
+enum Kind {
+    ClientFirst,
+    ServerFirst,
+    ClientFinal,
+    ServerFinal,
+}
+
+/// What reading says.
+fn said(alloc: Global, kind: Kind, text: &[u8]) -> Result<&'static str, ScramError> {
+    match kind {
+        Kind::ClientFirst => {
+            ClientFirst::read(alloc, text)?;
+            Ok("read")
+        }
+        Kind::ServerFirst => {
+            ServerFirst::read(alloc, text)?;
+            Ok("read")
+        }
+        Kind::ClientFinal => {
+            ClientFinal::read(alloc, text)?;
+            Ok("read")
+        }
+        Kind::ServerFinal => match ServerFinal::read(alloc, text)? {
+            ServerFinal::Signature(_) => Ok("signature"),
+            ServerFinal::Fault(_) => Ok("fault"),
+        },
+    }
+}
+
+/// What is said of a text.
+fn told(alloc: Global, kind: Kind, text: &[u8]) -> Result<String, AllocError> {
+    match said(alloc, kind, text) {
+        Ok(said) => format!(in alloc; "{said}"),
         Err(error) => format!(in alloc; "{error}"),
     }
 }
 
-#[test]
-fn texts_and_their_answers(rt: HostRuntime) -> Result<(), Fail> {
-    for (text, wanted) in CLIENT_FIRST {
-        let told = told(rt.alloc(), text.as_bytes())?;
-        assert_eq!(rt; told.as_str(), wanted);
+fn check_rows(
+    rt: &impl Abort,
+    alloc: Global,
+    kind: Kind,
+    rows: &[(&str, &str)],
+) -> Result<(), Fail> {
+    for (text, wanted) in rows {
+        let told = told(alloc, kind, text.as_bytes())?;
+        assert_eq!(rt; told.as_str(), *wanted);
     }
-    let whole = b"n,,n=a=2Cb,r=x1,e=2";
+    Ok(())
+}
+
+/// Each beginning of the text but those of these lengths goes on to its end, and is no message.
+fn check_beginnings(
+    rt: &impl Abort,
+    alloc: Global,
+    kind: Kind,
+    whole: &[u8],
+    read: &[usize],
+) -> Result<(), Fail> {
     for end in 0..whole.len() {
-        let told = told(rt.alloc(), &whole[..end])?;
-        if end == 14 || end == 15 {
-            assert_eq!(rt; told.as_str(), "read");
-        } else {
-            let wanted = format!(in rt.alloc(); "no message at {end}")?;
+        if !read.contains(&end) {
+            let told = told(alloc, kind, &whole[..end])?;
+            let wanted = format!(in alloc; "no message at {end}")?;
             assert_eq!(rt; told.as_str(), wanted.as_str());
         }
     }
@@ -59,18 +184,92 @@ fn texts_and_their_answers(rt: HostRuntime) -> Result<(), Fail> {
 }
 
 #[test]
+fn texts_and_their_answers(rt: HostRuntime) -> Result<(), Fail> {
+    check_rows(&rt, rt.alloc(), Kind::ClientFirst, &CLIENT_FIRST)?;
+    check_rows(&rt, rt.alloc(), Kind::ServerFirst, &SERVER_FIRST)?;
+    check_rows(&rt, rt.alloc(), Kind::ClientFinal, &CLIENT_FINAL)?;
+    check_rows(&rt, rt.alloc(), Kind::ServerFinal, &SERVER_FINAL)?;
+    Ok(())
+}
+
+#[test]
+fn beginnings_of_texts(rt: HostRuntime) -> Result<(), Fail> {
+    check_beginnings(
+        &rt,
+        rt.alloc(),
+        Kind::ClientFirst,
+        b"n,,n=a=2Cb,r=x1,e=2",
+        &[14, 15],
+    )?;
+    check_beginnings(
+        &rt,
+        rt.alloc(),
+        Kind::ServerFirst,
+        b"r=x,s=AAA=,i=12,y=z",
+        &[14, 15],
+    )?;
+    let final_text = b"c=eSws,r=x,e=2,p=dHzbZapWIk4jUhN+Ute9ytag9zjfMHgsqmmiz7AndVQ=";
+    check_beginnings(&rt, rt.alloc(), Kind::ClientFinal, final_text, &[])?;
+    let signature = b"v=6rriTRBi23WpRR/wtup+mMhUZUn/dB5nLTJRsjl95G4=";
+    check_beginnings(&rt, rt.alloc(), Kind::ServerFinal, signature, &[])?;
+    Ok(())
+}
+
+#[test]
 fn written_texts(rt: HostRuntime) -> Result<(), Fail> {
-    let message = ClientFirst::new(rt.alloc(), Flag::N, b"a,b=c", b"rOprNGfwEbeRWgbNEkqO")?;
-    let text = message.write(rt.alloc())?;
+    let alloc = rt.alloc();
+    let message = ClientFirst::new(alloc, Flag::N, b"a,b=c", b"rOprNGfwEbeRWgbNEkqO")?;
+    let text = message.write(alloc)?;
     assert_eq!(rt;
         text.bytes(),
         b"n,,n=a=2Cb=3Dc,r=rOprNGfwEbeRWgbNEkqO".as_slice()
     );
-    let Ok(read) = ClientFirst::read(rt.alloc(), text.bytes()) else {
+    let message = ServerFirst::new(alloc, b"abc", &[0, 16, 131, 16], 4096)?;
+    assert_eq!(rt;
+        message.write(alloc)?.bytes(),
+        b"r=abc,s=ABCDEA==,i=4096".as_slice()
+    );
+    let message = ClientFinal::new(alloc, Flag::Y, b"abc", &[0; 32])?;
+    assert_eq!(rt;
+        message.write(alloc)?.bytes(),
+        b"c=eSws,r=abc,p=AAAAAAAAAAAAAAAAAAAAAAAAAAAAAAAAAAAAAAAAAAA=".as_slice()
+    );
+    let message = ServerFinal::Signature([0; 32]);
+    assert_eq!(rt;
+        message.write(alloc)?.bytes(),
+        b"v=AAAAAAAAAAAAAAAAAAAAAAAAAAAAAAAAAAAAAAAAAAA=".as_slice()
+    );
+    Ok(())
+}
+
+#[test]
+fn parts_of_texts(rt: HostRuntime) -> Result<(), Fail> {
+    let alloc = rt.alloc();
+    let Ok(first) = ClientFirst::read(alloc, b"n,,n=a=2Cb,r=x") else {
         return Ok(assert!(rt; false));
     };
-    assert_eq!(rt; read.name.bytes(), b"a,b=c".as_slice());
-    assert_eq!(rt; read.bare.bytes(), message.bare.bytes());
+    assert_eq!(rt; first.name.bytes(), b"a,b".as_slice());
+    assert_eq!(rt; first.nonce.bytes(), b"x".as_slice());
+    let Ok(answer) = ServerFirst::read(alloc, b"r=xy,s=ABCDEA==,i=4096,z=1") else {
+        return Ok(assert!(rt; false));
+    };
+    assert_eq!(rt; answer.nonce.bytes(), b"xy".as_slice());
+    assert_eq!(rt; answer.salt.bytes(), [0, 16, 131, 16].as_slice());
+    assert_eq!(rt; answer.i, 4096);
+    assert_eq!(rt;
+        answer.text.bytes(),
+        b"r=xy,s=ABCDEA==,i=4096,z=1".as_slice()
+    );
+    let text = b"c=eSws,r=xy,z=1,p=AAAAAAAAAAAAAAAAAAAAAAAAAAAAAAAAAAAAAAAAAAA=";
+    let Ok(last) = ClientFinal::read(alloc, text) else {
+        return Ok(assert!(rt; false));
+    };
+    assert_eq!(rt; last.flag, Flag::Y);
+    assert_eq!(rt; last.without.bytes(), b"c=eSws,r=xy,z=1".as_slice());
+    let Ok(ServerFinal::Fault(error)) = ServerFinal::read(alloc, b"e=other-error,z=1") else {
+        return Ok(assert!(rt; false));
+    };
+    assert_eq!(rt; error.value.bytes(), b"other-error".as_slice());
     Ok(())
 }
 

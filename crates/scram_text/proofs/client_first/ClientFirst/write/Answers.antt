@@ -2,7 +2,7 @@ use Rattle.std.proofs.Common.{◌≡◌, ◌∷◌, arith}
 use Rattle.std.proofs.Math.Logic.{∥∥₁_map}
 use Rattle.std.proofs.lemmas.Grind.{common_steps}
 use Rattle.scram_text.specs.ClientFirstAnswers.{parts_of}
-use Rattle.scram_text.specs.ClientFirsts.{flag_letter}
+use Rattle.scram_text.specs.Flags.{flag_letter}
 use Rattle.scram_text.proofs.ClientFirstLaws.{written_spells}
 use Rattle.scram_text.proofs.client_first.ClientFirst.write.Goals as goal
 

@@ -1,6 +1,6 @@
 use Rattle.std.proofs.Common.{◌≡◌, ◌<◌, ◌^◌, sym, ◌∙◌, arith, rules}
 use Rattle.std.proofs.lemmas.Fmt.{decimal_injective}
-use Rattle.scram_text.proofs.reauth.count_of.Goals as goal
+use Rattle.scram_text.proofs.counts.count_of.Goals as goal
 
 pub returns-in_default-clause-none : goal.returns-in_default-clause-none
 returns-in_default-clause-none c = λ n some below is. c.in_default.ensures.none n (omega arith) is
