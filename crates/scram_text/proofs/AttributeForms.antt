@@ -2,7 +2,7 @@
 use Rattle.std.proofs.Common.{◌≡◌, ◌+◌, ◌-◌, ◌==◌, ℕ, List, [], ◌∷◌, ◌++◌, true, refl, sym, ◌∙◌, ap, subst, length, length-append, append-nil, arith}
 use Rattle.std.proofs.lemmas.Bool.Decides.{Decides-eqb}
 use Rattle.scram_text.specs.Contents.{Holds, has_letter}
-use Rattle.scram_text.specs.Parts.{AreExtensions, BreaksOff, Ends, HoldsFirst, HoldsLast, IsAttribute, IsWith, Then}
+use Rattle.scram_text.specs.Parts.{BreaksOff, Ends, HoldsFirst, HoldsLast, IsAttribute, IsWith, Then}
 use Rattle.scram_text.specs.Reaching.{Halts}
 use Rattle.scram_text.specs.declared.attribute.Attribute.{Attribute}
 use Rattle.scram_text.proofs.AttributeLaws.{attribute_of, attribute_whole, with_is}

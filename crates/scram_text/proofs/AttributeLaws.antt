@@ -1,11 +1,10 @@
 -- Attributes: what they hold, and how far they go on.
-use Rattle.std.proofs.Common.{◌≡◌, ◌≢◌, ◌==◌, ◌+◌, ◌-◌, ◌&&◌, ◌||◌, nat_lt, if◌then◌else◌, ℕ, Bool, true, false, List, [], ◌∷◌, ◌++◌, refl, sym, ◌∙◌, ap, subst, inl, inr, arith}
-use Rattle.std.specs.List.{flat_map, list_all, list_any}
-use Rattle.auth_grammar.specs.Plain.{is_printable}
-use Rattle.scram_text.specs.Bytes.{HasNoComma, base64_text, escape, escaped, is_letter, is_symbol, some_of}
-use Rattle.scram_text.specs.Contents.{Holds, WritesName, has_letter, is_of}
+use Rattle.std.proofs.Common.{◌≡◌, ◌≢◌, ◌==◌, ◌+◌, ◌-◌, ◌&&◌, ◌||◌, nat_lt, if◌then◌else◌, ℕ, true, false, List, [], ◌∷◌, refl, sym, ◌∙◌, ap, subst, inl, inr, arith}
+use Rattle.std.specs.List.{list_all}
+use Rattle.scram_text.specs.Bytes.{HasNoComma, base64_text, escape, escaped, is_symbol}
+use Rattle.scram_text.specs.Contents.{Holds, has_letter, is_of}
 use Rattle.scram_text.specs.Parts.{IsAttribute, IsWith, LedBy}
-use Rattle.scram_text.specs.Reaching.{Halts, Reaches}
+use Rattle.scram_text.specs.Reaching.{Reaches}
 use Rattle.scram_text.specs.declared.attribute.Attribute.{Attribute}
 use Rattle.scram_text.specs.declared.attribute.Attribute.TheVariants.{Name, Nonce, Extension, Inner, Binding, Salt, Count, Proof, Signature, Fault}
 use Rattle.scram_text.specs.declared.runs.Class.{Class}
@@ -23,7 +22,7 @@ use Rattle.scram_text.proofs.Base64Groups.{header_n, header_y}
 use Rattle.scram_text.proofs.Base64Steps.{stepped, word_at}
 use Rattle.scram_text.proofs.Base64Texts.{digest_from, digest_to, salt_from, salt_to}
 use Rattle.scram_text.proofs.ReauthLaws.{decimal_digits}
-use Rattle.scram_text.proofs.NameBytes.{Written, written, comma, equals, itself}
+use Rattle.scram_text.proofs.NameBytes.{written, comma, equals, itself}
 use Rattle.scram_text.proofs.PartLaws.{led_on, led_off, no_comma_cons, no_comma_join}
 use Rattle.scram_text.proofs.ByteTests.{both, same_or_not, some_all}
 

@@ -1,19 +1,19 @@
 -- The texts that may stand at a place are those that write bytes.
-use Rattle.std.proofs.Common.{◌≡◌, ◌≢◌, ℕ, zero, suc, ◌+◌, ◌-◌, ◌*◌, ◌/◌, ◌%◌, ◌<◌, ◌≤◌, ◌==◌, ◌&&◌, ◌||◌, nat_lt, Bool, true, false, List, [], ◌∷◌, ◌++◌, length, refl, sym, ◌∙◌, ap, subst, arith, ◌⊎◌, inl, inr, if◌then◌else◌}
+use Rattle.std.proofs.Common.{◌≡◌, ◌≢◌, ℕ, zero, suc, ◌+◌, ◌-◌, ◌*◌, ◌/◌, ◌%◌, ◌<◌, ◌≤◌, ◌==◌, ◌&&◌, Bool, true, false, List, [], ◌∷◌, length, refl, sym, ◌∙◌, ap, subst, arith, inl, inr, if◌then◌else◌}
 use Rattle.std.specs.declared.option.Option.{Option}
 use Rattle.std.specs.declared.option.Option.TheVariants.{None, Some}
-use Rattle.std.proofs.lemmas.Bool.Decides.{nat_tests, Decides-eqb}
+use Rattle.std.proofs.lemmas.Bool.Decides.{Decides-eqb}
 use Rattle.base64.specs.Engines.{standard}
 use Rattle.base64.specs.GeneralPurpose.{IsBytes}
 use Rattle.base64.proofs.EngineFacts.{encode_of-nil}
-use Rattle.scram_text.specs.Base64Places.{ends_in_zeros, is_end, may_follow, next_place, place_behind, symbol_value}
-use Rattle.scram_text.specs.Bytes.{IsDigest, IsSalt, base64_text, is_symbol}
+use Rattle.scram_text.specs.Base64Places.{ends_in_zeros, is_end, may_follow, next_place, symbol_value}
+use Rattle.scram_text.specs.Bytes.{base64_text, is_symbol}
 use Rattle.scram_text.specs.Contents.{WritesDigest, WritesSalt}
 use Rattle.scram_text.specs.declared.base64_places.Place.{Place}
 use Rattle.scram_text.specs.declared.base64_places.Place.TheVariants.{Start, Group, One, Two, Three, Sign, End, Sized}
 use Rattle.scram_text.proofs.Base64Groups.{Writes, WritesSome, symbol, symbol_at, tail_bytes, text_of_more, text_of_one, text_of_two, text_some, writes_more, writes_none, writes_one, writes_two}
 use Rattle.scram_text.proofs.Base64Steps.{end_empty, led_by_either, led_by_sign, led_by_symbol, one_step, sign_end, sized_next, sized_on, stepped}
-use Rattle.scram_text.proofs.ByteTests.{both, same_or_not}
+use Rattle.scram_text.proofs.ByteTests.{both}
 
 at_place : (p q : Place) (t : List ℕ) → p ≡ q → may_follow p t ≡ true → may_follow q t ≡ true
 at_place p q t same follows = subst (λ (x : Place). may_follow x t ≡ true) same follows

@@ -1,16 +1,14 @@
 -- The last message of a client: its forms, and that a text is one at most.
-use Rattle.std.proofs.Common.{◌≡◌, ◌+◌, ◌-◌, ◌≤◌, ◌<◌, ◌%◌, ◌/◌, ◌*◌, ℕ, suc, Bool, true, List, [], ◌∷◌, ◌++◌, refl, sym, ◌∙◌, ap, subst, take, length, length-append, append_assoc, append-nil, arith}
+use Rattle.std.proofs.Common.{◌≡◌, ◌+◌, ◌-◌, ℕ, suc, true, List, [], ◌∷◌, ◌++◌, refl, sym, ◌∙◌, ap, subst, take, length, length-append, append_assoc, append-nil, arith}
 use Rattle.std.specs.Prelude.{IfOk}
-use Rattle.std.specs.List.{flat_map}
 use Rattle.std.specs.declared.result.Result.{Result}
 use Rattle.std.specs.declared.result.Result.TheVariants.{Ok, Err}
 use Rattle.std.proofs.lemmas.List.{take_at}
-use Rattle.base64.specs.GeneralPurpose.{IsBytes}
 use Rattle.base64.specs.Rfc4648.{padding_len, unpadded_len}
 use Rattle.scram_text.specs.Bytes.{IsDigest, base64_text, is_nonce_byte, some_of}
-use Rattle.scram_text.specs.Flags.{flag_letter, header}
+use Rattle.scram_text.specs.Flags.{header}
 use Rattle.scram_text.specs.Contents.{WritesDigest, WritesHeader}
-use Rattle.scram_text.specs.Parts.{AreInner, HoldsFirst, HoldsTail, IsAttribute, IsTail, StandBefore, Then, before_commas, behind_commas}
+use Rattle.scram_text.specs.Parts.{HoldsFirst, HoldsTail, IsAttribute, IsTail, Then, before_commas, behind_commas}
 use Rattle.scram_text.specs.ClientFinals.{ClientFinalParts, CutsClientFinal, IsClientFinalText, IsWithout, SpellsClientFinal, client_final_text, without_text}
 use Rattle.scram_text.specs.ClientFinalAnswers.{AnswersClientFinal, client_final_parts}
 use Rattle.scram_text.specs.declared.attribute.Attribute.TheVariants.{Binding, Inner, Nonce, Proof}
@@ -21,7 +19,7 @@ use Rattle.scram_text.specs.declared.flag.Flag.TheVariants.{N, Y}
 use Rattle.scram_text.proofs.AttributeForms.{attribute_at, content_in, cut_first, first_in, first_word, is_letter_of}
 use Rattle.scram_text.proofs.AttributeLaws.{content_whole}
 use Rattle.scram_text.proofs.Base64Groups.{base64_injective, base64_long, header_n, header_y}
-use Rattle.scram_text.proofs.ClientFirstUnique.{flag_unique, tail_of}
+use Rattle.scram_text.proofs.ClientFirstUnique.{tail_of}
 use Rattle.scram_text.proofs.ExtensionLaws.{all_at_comma}
 use Rattle.scram_text.proofs.PartLaws.{parted}
 use Rattle.scram_text.proofs.ReauthLaws.{same_ends}

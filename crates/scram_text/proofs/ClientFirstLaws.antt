@@ -1,13 +1,13 @@
 -- The first message of a client: its forms, and how far a text goes on as one.
-use Rattle.std.proofs.Common.{◌≡◌, ◌≢◌, ◌==◌, ◌||◌, ◌+◌, ◌-◌, ◌*◌, ◌≤◌, ℕ, Bool, true, false, List, [], ◌∷◌, ◌++◌, refl, sym, ◌∙◌, ap, subst, length, length-append, append_assoc, append-nil, ◌⊎◌, inl, inr, arith}
+use Rattle.std.proofs.Common.{◌≡◌, ◌==◌, ◌||◌, ◌+◌, ◌*◌, ◌≤◌, ℕ, true, false, List, [], ◌∷◌, ◌++◌, refl, sym, ◌∙◌, ap, subst, length, length-append, append-nil, inl, inr, arith}
 use Rattle.std.proofs.lemmas.Bool.Decides.{Decides-eqb}
 use Rattle.auth_grammar.specs.Plain.{is_printable}
 use Rattle.scram_text.specs.Bytes.{escape, escaped, is_nonce_byte, some_of}
 use Rattle.scram_text.specs.ClientFirsts.{FirstParts, IsBare, IsBareText, IsClientFirst, IsClientFirstText, IsShort, SpellsClientFirst, bare_text, is_comma}
 use Rattle.scram_text.specs.Flags.{flag_letter, is_flag}
 use Rattle.scram_text.specs.Contents.{WritesName}
-use Rattle.scram_text.specs.Parts.{BreaksOff, Ends, HoldsFirst, HoldsLast, IsAttribute, IsWith, LedBy, Then}
-use Rattle.scram_text.specs.Reaching.{Halts, Reaches}
+use Rattle.scram_text.specs.Parts.{Ends, HoldsFirst, HoldsLast, IsAttribute, LedBy}
+use Rattle.scram_text.specs.Reaching.{Halts}
 use Rattle.scram_text.specs.declared.attribute.Attribute.TheVariants.{Name, Nonce}
 use Rattle.scram_text.specs.declared.flag.Flag.{Flag}
 use Rattle.scram_text.specs.declared.flag.Flag.TheVariants.{N, Y}
@@ -15,7 +15,7 @@ use Rattle.scram_text.proofs.AttributeLaws.{with_is}
 use Rattle.scram_text.proofs.ExtensionLaws.{no_extensions}
 use Rattle.scram_text.proofs.AttributeForms.{content_in, cut_first, cut_last, first_in, first_word, is_letter_of, last_in, last_word}
 use Rattle.scram_text.proofs.FormLaws.{halts_off, halts_on, moved}
-use Rattle.scram_text.proofs.NameBytes.{Written, written, comma, equals, itself}
+use Rattle.scram_text.proofs.NameBytes.{written, comma, equals, itself}
 use Rattle.scram_text.proofs.ByteTests.{same_or_not}
 
 -- a text of the form

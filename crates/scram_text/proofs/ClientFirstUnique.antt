@@ -1,6 +1,6 @@
 -- A text is one client-first message at most.
-use Rattle.std.proofs.Common.{◌≡◌, ◌==◌, ℕ, Bool, true, List, [], ◌∷◌, ◌++◌, refl, sym, ◌∙◌, ap, subst, append-nil, arith}
-use Rattle.scram_text.specs.Bytes.{HasNoComma, escaped, is_nonce_byte, some_of}
+use Rattle.std.proofs.Common.{◌≡◌, ℕ, List, [], ◌∷◌, ◌++◌, refl, sym, ◌∙◌, subst, append-nil, arith}
+use Rattle.scram_text.specs.Bytes.{escaped}
 use Rattle.scram_text.specs.ClientFirsts.{FirstParts, IsBare, SpellsClientFirst}
 use Rattle.scram_text.specs.Flags.{flag_letter}
 use Rattle.std.specs.Prelude.{IfOk}
@@ -10,7 +10,6 @@ use Rattle.scram_text.specs.ClientFirstAnswers.{AnswersClientFirst, parts_of}
 use Rattle.scram_text.specs.declared.client_first.ClientFirst.{ClientFirst}
 use Rattle.scram_text.specs.declared.error.ScramError.{ScramError}
 use Rattle.scram_text.specs.Contents.{WritesName}
-use Rattle.scram_text.specs.Parts.{IsAttribute}
 use Rattle.scram_text.specs.declared.attribute.Attribute.TheVariants.{Name, Nonce}
 use Rattle.scram_text.specs.declared.flag.Flag.{Flag}
 use Rattle.scram_text.specs.declared.flag.Flag.TheVariants.{N, Y}

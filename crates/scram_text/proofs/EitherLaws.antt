@@ -1,5 +1,5 @@
 -- How far a text goes on as one of two forms.
-use Rattle.std.proofs.Common.{◌≡◌, ◌+◌, ◌≤◌, ℕ, List, [], ◌∷◌, ◌++◌, refl, sym, ◌∙◌, ap, subst, length, ◌⊎◌, inl, inr, arith}
+use Rattle.std.proofs.Common.{◌≡◌, ◌≤◌, ℕ, List, [], ◌∷◌, ◌++◌, refl, sym, ◌∙◌, ap, subst, length, ◌⊎◌, inl, inr, arith}
 use Rattle.scram_text.specs.Reaching.{Halts, Reaches}
 
 -- what a text goes on with behind a shorter front

@@ -1,6 +1,6 @@
 -- Extensions behind a part, and how far they go on.
-use Rattle.std.proofs.Common.{◌≡◌, ◌≢◌, ◌+◌, ◌-◌, ℕ, List, [], ◌∷◌, ◌++◌, refl, sym, ◌∙◌, ap, subst, length, length-append, append_assoc, append-nil, arith}
-use Rattle.std.specs.List.{AllByRecursion, flat_map}
+use Rattle.std.proofs.Common.{◌≡◌, ◌+◌, ◌-◌, ℕ, List, [], ◌∷◌, ◌++◌, refl, sym, ◌∙◌, ap, subst, length, length-append, append_assoc, append-nil, arith}
+use Rattle.std.specs.List.{AllByRecursion}
 use Rattle.scram_text.specs.Bytes.{HasNoComma}
 use Rattle.scram_text.specs.Parts.{AreAll, AreExtensions, Ends, FirstPart, IsAtComma, IsAttribute, behind_commas}
 use Rattle.scram_text.specs.Reaching.{Halts, Reaches}

@@ -2,7 +2,7 @@
 use Rattle.std.proofs.Common.{◌≡◌, ◌+◌, ◌-◌, ◌<◌, ◌≤◌, ℕ, Bool, true, false, List, [], ◌∷◌, ◌++◌, refl, sym, ◌∙◌, ap, subst, length, take, length-append, append_assoc, suc, arith}
 use Rattle.std.proofs.Math.Seq.{take-append-add}
 use Rattle.std.proofs.lemmas.List.{take_at}
-use Rattle.auth_grammar.specs.Reach.{Begins, IsReach, Stops}
+use Rattle.auth_grammar.specs.Reach.{Stops}
 use Rattle.scram_text.specs.Parts.{LedBy}
 use Rattle.scram_text.specs.Reaching.{Halts, Reaches}
 use Rattle.scram_text.proofs.PartLaws.{led_none, led_off, led_on}

@@ -1,6 +1,5 @@
 -- One byte of a name as it is written.
-use Rattle.std.proofs.Common.{◌≡◌, ◌≢◌, ◌==◌, ℕ, true, false, List, [], ◌∷◌, ◌++◌, refl, sym, ◌∙◌, ap, ◌⊎◌, inl, inr, length, arith}
-use Rattle.auth_grammar.specs.Plain.{is_printable}
+use Rattle.std.proofs.Common.{◌≡◌, ◌≢◌, ℕ, List, [], ◌∷◌, ◌++◌, refl, sym, ◌∙◌, ap, inl, inr, arith}
 use Rattle.scram_text.specs.Bytes.{escape}
 use Rattle.scram_text.specs.Names.{BeginsByte, GoesInto}
 use Rattle.scram_text.proofs.ByteTests.{same_or_not}

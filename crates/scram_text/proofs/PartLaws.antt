@@ -1,10 +1,9 @@
 -- Texts cut into parts at their commas, and how far they go on.
-use Rattle.std.proofs.Common.{◌≡◌, ◌≢◌, ◌==◌, ◌||◌, ◌+◌, ◌≤◌, ℕ, Bool, true, false, List, [], ◌∷◌, ◌++◌, refl, sym, ◌∙◌, ap, subst, length, length-append, append_assoc, append-nil, ◌⊎◌, inl, inr, arith}
-use Rattle.std.specs.List.{AllByRecursion, flat_map, list_any}
+use Rattle.std.proofs.Common.{◌≡◌, ◌≢◌, ◌==◌, ◌+◌, ℕ, Bool, true, false, List, [], ◌∷◌, ◌++◌, refl, sym, ◌∙◌, ap, subst, length, length-append, append_assoc, append-nil, inl, inr, arith}
+use Rattle.std.specs.List.{list_any}
 use Rattle.scram_text.specs.Bytes.{HasNoComma}
-use Rattle.scram_text.specs.Parts.{AreExtensions, BreaksOff, Ends, FirstPart, IsAtComma, IsAttribute, LedBy, Then, behind_commas}
+use Rattle.scram_text.specs.Parts.{BreaksOff, IsAtComma, LedBy, Then}
 use Rattle.scram_text.specs.Reaching.{Halts, Reaches}
-use Rattle.scram_text.specs.declared.attribute.Attribute.TheVariants.{Extension}
 use Rattle.scram_text.proofs.ByteTests.{neither, same_or_not}
 
 -- the first byte is no comma, and none is behind it

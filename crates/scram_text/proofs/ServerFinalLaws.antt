@@ -1,11 +1,11 @@
 -- The last message of a server: its forms, and that a text is one at most.
-use Rattle.std.proofs.Common.{◌≡◌, ◌+◌, ◌≤◌, ◌<◌, ℕ, Bool, true, List, [], ◌∷◌, ◌++◌, refl, sym, ◌∙◌, ap, subst, append-nil, ◌⊎◌, inl, inr, arith}
+use Rattle.std.proofs.Common.{◌≡◌, ℕ, true, List, [], ◌∷◌, ◌++◌, refl, sym, ◌∙◌, ap, subst, append-nil, inl, inr, arith}
 use Rattle.std.specs.Prelude.{IfOk}
 use Rattle.std.specs.declared.result.Result.{Result}
 use Rattle.std.specs.declared.result.Result.TheVariants.{Ok, Err}
-use Rattle.scram_text.specs.Bytes.{IsDigest, base64_text, is_value_byte, some_of}
+use Rattle.scram_text.specs.Bytes.{base64_text, is_value_byte, some_of}
 use Rattle.scram_text.specs.Contents.{WritesDigest}
-use Rattle.scram_text.specs.Parts.{AreExtensions, Ends, HoldsLast, IsAttribute}
+use Rattle.scram_text.specs.Parts.{HoldsLast}
 use Rattle.scram_text.specs.ServerFinals.{FinalSaid, IsSaid, IsServerFinalText, SpellsServerFinal, failed, server_final_text, signed}
 use Rattle.scram_text.specs.ServerFinalAnswers.{AnswersServerFinal, said_of}
 use Rattle.scram_text.specs.declared.attribute.Attribute.TheVariants.{Signature, Fault}

@@ -1,14 +1,12 @@
 -- The first message of a server: its forms, and that a text is one at most.
-use Rattle.std.proofs.Common.{◌≡◌, ◌+◌, ◌-◌, ◌≤◌, ◌<◌, ◌^◌, ℕ, Bool, true, List, [], ◌∷◌, ◌++◌, refl, sym, ◌∙◌, ap, subst, length, length-append, append_assoc, append-nil, arith}
+use Rattle.std.proofs.Common.{◌≡◌, ◌≤◌, ◌<◌, ◌^◌, ℕ, true, List, [], ◌∷◌, ◌++◌, refl, sym, ◌∙◌, ap, subst, length, length-append, append_assoc, append-nil, arith}
 use Rattle.std.specs.Prelude.{IfOk, decimal}
 use Rattle.std.specs.declared.result.Result.{Result}
 use Rattle.std.specs.declared.result.Result.TheVariants.{Ok, Err}
 use Rattle.std.proofs.lemmas.Fmt.{decimal_injective, length-decimal-le}
-use Rattle.base64.specs.GeneralPurpose.{IsBytes}
 use Rattle.scram_text.specs.Bytes.{IsCount, IsSalt, base64_text, is_nonce_byte, some_of}
 use Rattle.scram_text.specs.Contents.{WritesCount, WritesSalt}
-use Rattle.scram_text.specs.Parts.{AreExtensions, Ends, HoldsFirst, HoldsLast, IsAttribute, Then}
-use Rattle.scram_text.specs.Reaching.{Halts}
+use Rattle.scram_text.specs.Parts.{Ends, HoldsFirst, HoldsLast, IsAttribute, Then}
 use Rattle.scram_text.specs.ServerFirsts.{CutsServerFirst, IsServerFirst, IsServerFirstText, ServerFirstParts, SpellsServerFirst, server_first_text}
 use Rattle.scram_text.specs.ServerFirstAnswers.{AnswersServerFirst, server_first_parts}
 use Rattle.scram_text.specs.declared.attribute.Attribute.TheVariants.{Nonce, Salt, Count}

@@ -1,16 +1,15 @@
 -- Extensions and then a proof, and how far a text goes on so.
-use Rattle.std.proofs.Common.{◌≡◌, ◌≢◌, ◌+◌, ◌-◌, ◌≤◌, ◌==◌, ◌&&◌, not, ℕ, Bool, true, false, List, [], ◌∷◌, ◌++◌, refl, sym, ◌∙◌, ap, subst, length, length-append, append_assoc, append-nil, ◌⊎◌, inl, inr, arith}
-use Rattle.std.specs.List.{AllByRecursion, flat_map}
-use Rattle.std.proofs.lemmas.Bool.Decides.{Decides-eqb}
+use Rattle.std.proofs.Common.{◌≡◌, ◌+◌, ◌-◌, ◌≤◌, ◌==◌, not, ℕ, Bool, true, false, List, [], ◌∷◌, ◌++◌, refl, sym, ◌∙◌, ap, subst, length, length-append, append_assoc, append-nil, ◌⊎◌, inl, inr, arith}
+use Rattle.std.specs.List.{AllByRecursion}
 use Rattle.scram_text.specs.Bytes.{is_letter}
 use Rattle.scram_text.specs.Contents.{has_letter}
-use Rattle.scram_text.specs.Parts.{BreaksOff, HoldsFirst, HoldsTail, IsAttribute, IsTail, IsWith, StandBefore, Then, before_commas, behind_commas}
+use Rattle.scram_text.specs.Parts.{BreaksOff, HoldsFirst, HoldsTail, IsAttribute, IsTail, StandBefore, Then, before_commas, behind_commas}
 use Rattle.scram_text.specs.Reaching.{Halts, Reaches}
 use Rattle.scram_text.specs.declared.attribute.Attribute.TheVariants.{Inner, Proof}
 use Rattle.scram_text.proofs.AttributeForms.{content_in}
 use Rattle.scram_text.proofs.AttributeLaws.{attribute_of, attribute_whole, goes_nowhere, with_is}
 use Rattle.scram_text.proofs.ByteTests.{both}
-use Rattle.scram_text.proofs.EitherLaws.{either_halts, either_reaches}
+use Rattle.scram_text.proofs.EitherLaws.{either_halts}
 use Rattle.scram_text.proofs.FormLaws.{moved, same_reach}
 use Rattle.scram_text.proofs.PartLaws.{then_off, then_on}
 

@@ -1,6 +1,6 @@
 -- How far a text goes on as a given word.
-use Rattle.std.proofs.Common.{◌≡◌, ◌≢◌, ◌+◌, ◌-◌, ◌≤◌, ◌<◌, ℕ, List, [], ◌∷◌, ◌++◌, refl, sym, ◌∙◌, ap, subst, length, length-append, append-nil, take, drop, get_or, length-drop, arith}
-use Rattle.std.proofs.lemmas.List.{drop_more, length-take-le, take-append-drop, take_all, take_more}
+use Rattle.std.proofs.Common.{◌≡◌, ◌≢◌, ◌+◌, ◌≤◌, ◌<◌, ℕ, List, [], ◌∷◌, ◌++◌, refl, sym, ◌∙◌, ap, length, append-nil, take, drop, get_or, length-drop, arith}
+use Rattle.std.proofs.lemmas.List.{drop_more, length-take-le, take-append-drop, take_all}
 use Rattle.scram_text.specs.Reaching.{Reaches}
 use Rattle.scram_text.proofs.PartLaws.{same_front}
 

@@ -1,12 +1,12 @@
 -- Names as they are written.
-use Rattle.std.proofs.Common.{◌≡◌, ◌≢◌, ◌+◌, ◌-◌, ◌≤◌, ℕ, true, false, List, [], ◌∷◌, ◌++◌, refl, sym, ◌∙◌, ap, length, length-append, append_assoc, append-nil, subst, arith}
-use Rattle.std.specs.List.{flat_map, list_all}
+use Rattle.std.proofs.Common.{◌≡◌, ◌≢◌, ◌+◌, ◌-◌, ℕ, true, List, [], ◌∷◌, ◌++◌, refl, sym, ◌∙◌, ap, length, length-append, append_assoc, append-nil, subst, arith}
+use Rattle.std.specs.List.{list_all}
 use Rattle.auth_grammar.specs.Plain.{is_printable}
-use Rattle.scram_text.specs.Bytes.{escape, escaped, some_of}
+use Rattle.scram_text.specs.Bytes.{escape, escaped}
 use Rattle.scram_text.specs.Contents.{WritesName}
 use Rattle.scram_text.specs.Names.{BeginsByte, BeginsName, GoesInto}
 use Rattle.scram_text.specs.Reaching.{Reaches}
-use Rattle.scram_text.proofs.NameBytes.{Written, written, comma, equals, itself}
+use Rattle.scram_text.proofs.NameBytes.{written, comma, equals, itself}
 use Rattle.scram_text.proofs.ByteTests.{both, list_all-append, list_all-split, some_all, some_snoc}
 
 -- one more byte is written at the end

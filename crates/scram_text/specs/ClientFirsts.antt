@@ -1,6 +1,5 @@
 -- The first message of a client (RFC 5802 section 7: client-first-message).
-use Rattle.std.specs.Prelude.{◌≡◌, ◌≤◌, ◌<◌, ◌+◌, ℕ, Bool, ◌==◌, ◌||◌, true, List, [], ◌∷◌, ◌++◌, length}
-use Rattle.auth_grammar.specs.Reach.{Stops}
+use Rattle.std.specs.Prelude.{◌≡◌, ◌≤◌, ℕ, Bool, ◌==◌, true, List, ◌∷◌, ◌++◌, length}
 use Rattle.scram_text.specs.Bytes.{escaped, is_nonce_byte, some_of}
 use Rattle.scram_text.specs.Contents.{WritesName}
 use Rattle.scram_text.specs.Flags.{flag_letter, is_flag}

@@ -1,5 +1,5 @@
 -- What stands behind the letter and the equals sign of a part (RFC 5802 section 7).
-use Rattle.std.specs.Prelude.{◌≡◌, ◌≤◌, ◌<◌, ◌==◌, ◌&&◌, not, ℕ, Bool, List, [], ◌∷◌, true, decimal}
+use Rattle.std.specs.Prelude.{◌≡◌, ◌==◌, ◌&&◌, not, ℕ, Bool, List, true, decimal}
 use Rattle.auth_grammar.specs.Plain.{is_printable}
 use Rattle.scram_text.specs.Bytes.{IsCount, IsDigest, IsSalt, base64_text, escaped, is_letter, is_nonce_byte, is_symbol, is_value_byte, some_of}
 use Rattle.scram_text.specs.Flags.{header}

@@ -1,5 +1,5 @@
 -- Names as they are written, byte by byte (RFC 5802 section 7: saslname).
-use Rattle.std.specs.Prelude.{◌≡◌, ◌+◌, ℕ, List, ◌++◌, ◌∷◌, length, true}
+use Rattle.std.specs.Prelude.{◌≡◌, ℕ, List, ◌++◌, ◌∷◌, length, true}
 use Rattle.std.specs.List.{list_all}
 use Rattle.auth_grammar.specs.Plain.{is_printable}
 use Rattle.scram_text.specs.Bytes.{escape, escaped}

@@ -1,5 +1,5 @@
 -- Messages as parts with commas between them (RFC 5802 section 5.1).
-use Rattle.std.specs.Prelude.{◌≡◌, ◌⊎◌, ℕ, Bool, true, ◌==◌, ◌&&◌, not, List, [], ◌∷◌, ◌++◌}
+use Rattle.std.specs.Prelude.{◌≡◌, ◌⊎◌, ℕ, Bool, true, ◌==◌, List, [], ◌∷◌, ◌++◌}
 use Rattle.std.specs.List.{AllByRecursion, flat_map}
 use Rattle.scram_text.specs.Bytes.{HasNoComma}
 use Rattle.scram_text.specs.Contents.{Holds, has_letter}

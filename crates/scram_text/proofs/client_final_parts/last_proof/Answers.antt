@@ -1,4 +1,3 @@
-use Rattle.std.proofs.Common.{length}
 use Rattle.scram_text.proofs.TailLaws.{tail_halts, tail_stops}
 use Rattle.scram_text.proofs.client_final_parts.last_proof.Goals as goal
 

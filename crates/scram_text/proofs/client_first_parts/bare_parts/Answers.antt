@@ -1,7 +1,6 @@
 use Rattle.scram_text.specs.Parts.{Ends, IsAttribute}
 use Rattle.scram_text.specs.declared.attribute.Attribute.TheVariants.{Name, Nonce}
 use Rattle.scram_text.proofs.AttributeForms.{last_word, stops_at, stops_behind}
-use Rattle.scram_text.proofs.ClientFirstLaws.{makes_bare}
 use Rattle.scram_text.proofs.client_first_parts.bare_parts.Goals as goal
 
 pub returns-in-Err-clause-err : goal.returns-in-Err-clause-err

@@ -1,4 +1,4 @@
-use Rattle.std.proofs.Common.{◌≡◌, List, ℕ, [], ◌∷◌, sym, ◌∙◌, subst, true, false}
+use Rattle.std.proofs.Common.{◌≡◌, ℕ, [], ◌∷◌, sym, ◌∙◌, subst, true, false}
 use Rattle.scram_text.specs.Flags.{is_flag}
 use Rattle.scram_text.proofs.ClientFirstLaws.{flag_letters, stops_at_flag, stops_behind_comma, stops_behind_flag}
 use Rattle.scram_text.proofs.client_first_parts.flagged.Goals as goal

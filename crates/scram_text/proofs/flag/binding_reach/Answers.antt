@@ -1,4 +1,4 @@
-use Rattle.std.proofs.Common.{◌≡◌, ◌⊎◌, List, ℕ, sym, subst, inl, inr}
+use Rattle.std.proofs.Common.{◌≡◌, ◌⊎◌, List, ℕ, subst, inl, inr}
 use Rattle.scram_text.specs.Contents.{WritesHeader}
 use Rattle.scram_text.specs.Reaching.{Reaches}
 use Rattle.scram_text.specs.declared.flag.Flag.{Flag}

@@ -1,4 +1,4 @@
-use Rattle.std.proofs.Common.{◌≡◌, true, false, ℕ, List, [], ◌∷◌, sym, ◌∙◌}
+use Rattle.std.proofs.Common.{◌≡◌, true, false, [], sym, ◌∙◌}
 use Rattle.scram_text.proofs.WrittenNames.{whole_name}
 use Rattle.scram_text.proofs.names.is_written_name.Goals as goal
 

@@ -2,7 +2,6 @@ use Rattle.std.proofs.Common.{◌≡◌, ◌++◌, List, ℕ, length}
 use Rattle.std.specs.List.{AllByRecursion}
 use Rattle.scram_text.specs.Parts.{IsAtComma, IsAttribute, behind_commas}
 use Rattle.scram_text.specs.declared.attribute.Attribute.TheVariants.{Extension}
-use Rattle.scram_text.proofs.PartLaws.{then_off}
 use Rattle.scram_text.proofs.parts.extensions_fault.Given as goal
 
 -- extensions stand before the rest

@@ -1,4 +1,4 @@
-use Rattle.std.proofs.Common.{◌≡◌, List, ℕ, true, false, sym, ◌∙◌, ap, rules, arith}
+use Rattle.std.proofs.Common.{◌≡◌, true, false, sym, ◌∙◌, ap, rules}
 use Rattle.std.specs.List.{list_all}
 use Rattle.scram_text.specs.Bytes.{is_nonce_byte, is_symbol, some_of}
 use Rattle.scram_text.proofs.ReauthLaws.{client_found, parts_found}

@@ -1,7 +1,6 @@
 use Rattle.std.proofs.Common.{◌≡◌, ◌++◌, List, ℕ, length, true}
 use Rattle.std.specs.Char.{is_ascii_digit}
 use Rattle.std.specs.List.{list_all}
-use Rattle.scram_text.proofs.ReauthLaws.{one_cut}
 use Rattle.scram_text.proofs.reauth.split_digits.Given as goal
 
 -- digits stand behind the head

@@ -1,4 +1,4 @@
-use Rattle.std.proofs.Common.{◌≡◌, true, false, ℕ, List, [], ◌∷◌, refl, subst, sym, ◌∙◌, take, length, append-nil, rules, arith, get_or}
+use Rattle.std.proofs.Common.{◌≡◌, true, ℕ, List, [], subst, sym, take, append-nil, rules, arith}
 use Rattle.std.specs.List.{list_all}
 use Rattle.std.proofs.lemmas.List.{take_all}
 use Rattle.scram_text.specs.Contents.{is_of}

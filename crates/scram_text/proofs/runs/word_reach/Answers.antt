@@ -1,4 +1,4 @@
-use Rattle.std.proofs.Common.{sym, arith}
+use Rattle.std.proofs.Common.{arith}
 use Rattle.scram_text.proofs.WordLaws.{word_stops, word_whole}
 use Rattle.scram_text.proofs.runs.word_reach.Goals as goal
 

@@ -1,4 +1,4 @@
-use Rattle.std.proofs.Common.{◌≡◌, rules, arith, length}
+use Rattle.std.proofs.Common.{◌≡◌, rules, arith}
 use Rattle.std.proofs.lemmas.Grind.{common_steps}
 use Rattle.scram_text.specs.Bytes.{IsDigest}
 use Rattle.scram_text.specs.ServerFinals.{server_final_text, signed}

@@ -1,4 +1,4 @@
-use Rattle.std.proofs.Common.{◌≡◌, List, ℕ, [], ◌∷◌, sym, ◌∙◌, subst, false, true, rules}
+use Rattle.std.proofs.Common.{◌≡◌, ℕ, [], ◌∷◌, sym, ◌∙◌, subst, false, rules}
 use Rattle.scram_text.specs.Contents.{has_letter}
 use Rattle.scram_text.proofs.AttributeLaws.{goes_behind, goes_nowhere, goes_to_sign}
 use Rattle.scram_text.proofs.attribute.Attribute.reach.Goals as goal

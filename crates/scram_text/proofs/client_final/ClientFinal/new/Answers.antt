@@ -1,5 +1,4 @@
-use Rattle.std.proofs.Common.{◌≡◌, List, ℕ, true, length, subst, sym, rules, arith}
-use Rattle.base64.specs.GeneralPurpose.{IsBytes}
+use Rattle.std.proofs.Common.{◌≡◌, List, ℕ, true, subst, sym, rules, arith}
 use Rattle.scram_text.specs.Bytes.{IsDigest, is_nonce_byte, some_of}
 use Rattle.scram_text.proofs.ClientFinalLaws.{new_is}
 use Rattle.scram_text.proofs.client_final.ClientFinal.new.Goals as goal

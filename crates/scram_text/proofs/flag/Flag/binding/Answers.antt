@@ -1,4 +1,4 @@
-use Rattle.std.proofs.Common.{[], ◌∷◌, List, ℕ, subst, sym}
+use Rattle.std.proofs.Common.{[], ◌∷◌, subst, sym}
 use Rattle.scram_text.specs.Contents.{WritesHeader}
 use Rattle.scram_text.specs.declared.flag.Flag.{Flag}
 use Rattle.scram_text.proofs.Base64Groups.{header_n, header_y}

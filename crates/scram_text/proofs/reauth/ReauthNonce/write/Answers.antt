@@ -2,7 +2,6 @@ use Rattle.std.proofs.Common.{◌≡◌, List, ℕ, subst, sym, arith}
 use Rattle.std.proofs.Math.Logic.{∥∥₁_map}
 use Rattle.std.proofs.lemmas.Grind.{common_steps}
 use Rattle.scram_text.specs.Reauths.{IsReauth, reauth_text}
-use Rattle.scram_text.proofs.ReauthLaws.{client_found}
 use Rattle.scram_text.proofs.reauth.ReauthNonce.write.Goals as goal
 
 pub returns-clause-reads_back : goal.returns-clause-reads_back

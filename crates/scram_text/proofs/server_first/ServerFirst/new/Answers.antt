@@ -1,4 +1,4 @@
-use Rattle.std.proofs.Common.{◌≡◌, List, ℕ, true, subst, sym, rules, arith}
+use Rattle.std.proofs.Common.{◌≡◌, List, ℕ, true, subst, sym, arith}
 use Rattle.std.proofs.lemmas.Grind.{common_steps}
 use Rattle.scram_text.specs.Bytes.{is_nonce_byte, some_of}
 use Rattle.scram_text.specs.ServerFirsts.{server_first_text}
