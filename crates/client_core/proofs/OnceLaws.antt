@@ -1,0 +1,184 @@
+-- No nonce is given with one count twice.
+use Rattle.std.proofs.Common.{◌≡◌, ◌≢◌, ◌⊎◌, ◌+◌, ◌-◌, ◌≤◌, ◌<◌, ◌^◌, ℕ, Bool, true, false, cond, List, [], ◌∷◌, Option, Some, None, refl, sym, ap, ◌∙◌, subst, inl, inr, arith}
+use Rattle.std.specs.Prelude.{if◌then◌else◌, nat_lt, ◌&&◌}
+use Rattle.std.proofs.lemmas.Bool.Decides.{nat_tests}
+use Rattle.auth_grammar.specs.Names.{params_of}
+use Rattle.auth_grammar.specs.declared.items.Param.{Param}
+use Rattle.digest_fields.specs.Credentials.{Credentials, credentials_params}
+use Rattle.digest_fields.specs.Field.{given}
+use Rattle.digest_fields.specs.Nc.{nc_number, nc_text}
+use Rattle.digest_fields.specs.declared.field.FieldName.TheVariants as field
+use Rattle.digest_fields.proofs.Counts.{nc_number-nc_text}
+use Rattle.digest_fields.proofs.Lookups.{lookups}
+use Rattle.client_core.specs.declared.request.OutRequest.{OutRequest}
+use Rattle.client_core.specs.declared.request.Sent.{Sent}
+use Rattle.client_core.specs.declared.request.Sent.TheVariants as sent
+use Rattle.client_core.specs.declared.state.Chosen.{Chosen}
+use Rattle.client_core.specs.declared.state.Chosen.TheVariants.{Nothing, Digest}
+use Rattle.client_core.specs.declared.state.DigestChoice.{DigestChoice}
+use Rattle.client_core.specs.declared.state.State.{State}
+use Rattle.client_core.specs.Counts.{Drawn, count_of, with_count}
+use Rattle.client_core.specs.Digests.{DrewAtMost, can_use, credentials_with, digest_given, given_by_nonce, given_with, next_draw}
+use Rattle.client_core.specs.Domains.{lets_pass}
+use Rattle.client_core.specs.Laws.{AreDistinct, Call, Gave, Failed, Other, GivesOnce, IsOther, Leave, Leaves, Use, use_in, uses}
+use Rattle.client_core.proofs.CountLaws.{count-with_grows, count-with_same}
+
+-- ---- one call
+
+-- a call draws no count, or the next one of a text
+abbrev Draws : Drawn → Drawn → Type 0
+Draws d e = (e ≡ d) ⊎ ((n : List ℕ) × (e ≡ with_count d n (count_of d n + 1)))
+
+grows : (d e : Drawn) → Draws d e → (n : List ℕ) → count_of d n ≤ count_of e n
+grows d e (inl same) n = subst (λ (x : Drawn). count_of d n ≤ count_of x n) (sym same) (omega arith)
+grows d e (inr drawn) n =
+    subst (λ (x : Drawn). count_of d n ≤ count_of x n) (sym drawn.1) (count-with_grows d drawn.0 n (count_of d drawn.0 + 1) (omega arith))
+
+-- a use that has the next count of a nonce
+pub record IsNext (d e : Drawn) (one : Use) : Type 0 where
+  pub nonce : List ℕ
+  pub count : ℕ
+  pub fits : count < 2 ^ 32
+  pub next : count_of d nonce < count
+  pub is : one ≡ (Some nonce, Some (nc_text count))
+  pub after : count_of e nonce ≡ count
+
+abbrev AreNext : Drawn → Drawn → Sent → Type 0
+AreNext d e (sent.Digest item) = IsNext d e (use_in (params_of item.rest))
+AreNext d e sent.Nothing = Unit {0}
+AreNext d e (sent.ScramFirst item) = Unit {0}
+AreNext d e (sent.ScramFinal item) = Unit {0}
+AreNext d e (sent.ScramAgain item) = Unit {0}
+
+nonce_found : (c : Credentials) → given field.Nonce (credentials_params c) ≡ Some c.nonce
+unfolding credentials_params
+nonce_found c = simp lookups
+
+count_found : (c : Credentials) → given field.Nc (credentials_params c) ≡ Some c.nc
+unfolding credentials_params
+count_found c = simp lookups
+
+use_found : (c : Credentials) → use_in (credentials_params c) ≡ (Some c.nonce, Some c.nc)
+use_found c = rw (nonce_found c, count_found c) refl
+
+first_of_two : (a b : Bool) → a && b ≡ true → a ≡ true
+first_of_two true b e = refl
+first_of_two false b e = e
+
+abbrev GivesNext : State → Sent × State → Type 0
+GivesNext s p = Draws s.drawn p.1.drawn × AreNext s.drawn p.1.drawn p.0
+
+by_test : (s : State) (request : OutRequest) (words : List ℕ) (choice : DigestChoice) (nonce : List ℕ) (b : Bool)
+    → can_use s.role s.drawn choice nonce request ≡ b
+    → GivesNext s (if b then given_with s choice (next_draw s.drawn choice nonce words) request else (sent.Nothing, s))
+by_test s request words choice nonce false is = (inl refl, tt)
+by_test s request words choice nonce true is =
+    let left : nat_lt (count_of s.drawn nonce) (2 ^ 32 - 1) ≡ true = first_of_two (nat_lt (count_of s.drawn nonce) (2 ^ 32 - 1)) (lets_pass s.role choice.challenge.domain request) is in
+    let below : count_of s.drawn nonce + 1 < 2 ^ 32 = grind (arith, nat_tests) in (
+      inr (nonce, refl),
+      record {
+        nonce = nonce;
+        count = count_of s.drawn nonce + 1;
+        fits = below;
+        next = omega arith;
+        is = use_found (credentials_with s.user choice.challenge (next_draw s.drawn choice nonce words) request);
+        after = count-with_same s.drawn nonce (count_of s.drawn nonce + 1);
+      },
+    )
+
+by_nonce : (s : State) (request : OutRequest) (words : List ℕ) (choice : DigestChoice) (nonce : Option (List ℕ))
+    → GivesNext s (given_by_nonce s request words choice nonce)
+by_nonce s request words choice None = (inl refl, tt)
+by_nonce s request words choice (Some nonce) = by_test s request words choice nonce (can_use s.role s.drawn choice nonce request) refl
+
+by_choice : (s : State) (request : OutRequest) (words : List ℕ) (choice : Chosen) → GivesNext s (digest_given s request words choice)
+by_choice s request words Nothing = (inl refl, tt)
+by_choice s request words (Digest choice) = by_nonce s request words choice choice.nonce
+
+gave_next : (s t : State) (request : OutRequest) (words : List ℕ) (what : Sent) → digest_given s request words s.choice ≡ (what, t) → GivesNext s (what, t)
+gave_next s t request words what e = subst (λ (p : Sent × State). GivesNext s p) e (by_choice s request words s.choice)
+
+failed_draws : (s t : State) → DrewAtMost s t → Draws s.drawn t.drawn
+failed_draws s t (inl same) = inl (ap (λ (x : State). x.drawn) same)
+failed_draws s t (inr drew) = inr (drew.0, ap (λ (x : State). x.drawn) drew.1)
+
+leaves_draws : (s t : State) (call : Call) → Leaves s call t → Draws s.drawn t.drawn
+leaves_draws s t (Gave request words what) e = (gave_next s t request words what e).0
+leaves_draws s t Failed e = failed_draws s t e
+leaves_draws s t Other e = inl e
+
+-- ---- calls one behind the other
+
+-- a use whose count is greater than what was drawn of its nonce
+pub record IsLater (d : Drawn) (one : Use) : Type 0 where
+  pub nonce : List ℕ
+  pub count : ℕ
+  pub fits : count < 2 ^ 32
+  pub later : count_of d nonce < count
+  pub is : one ≡ (Some nonce, Some (nc_text count))
+
+abbrev AreLater : Drawn → List Use → Type 0
+AreLater d [] = Unit {0}
+AreLater d (one ∷ more) = IsLater d one × AreLater d more
+
+later_before : (d e : Drawn) → Draws d e → (more : List Use) → AreLater e more → AreLater d more
+later_before d e draws [] h = tt
+later_before d e draws (one ∷ more) h =
+    let low : count_of d h.0.nonce ≤ count_of e h.0.nonce = grows d e draws h.0.nonce in
+    let above : count_of e h.0.nonce < h.0.count = h.0.later in
+    (record { nonce = h.0.nonce; count = h.0.count; fits = h.0.fits; later = omega arith; is = h.0.is }, later_before d e draws more h.1)
+
+next_later : (d e : Drawn) (one : Use) → IsNext d e one → IsLater d one
+next_later d e one h = record { nonce = h.nonce; count = h.count; fits = h.fits; later = h.next; is = h.is }
+
+with_call : (s u t : State) (call : Call) (calls : List Call) → Leaves s call u → AreLater u.drawn (uses calls) → AreLater s.drawn (uses (call ∷ calls))
+with_call s u t (Gave request words sent.Nothing) calls e h = later_before s.drawn u.drawn (leaves_draws s u (Gave request words sent.Nothing) e) (uses calls) h
+with_call s u t (Gave request words (sent.Digest item)) calls e h = (
+  next_later s.drawn u.drawn (use_in (params_of item.rest)) (gave_next s u request words (sent.Digest item) e).1,
+  later_before s.drawn u.drawn (leaves_draws s u (Gave request words (sent.Digest item)) e) (uses calls) h,
+)
+with_call s u t (Gave request words (sent.ScramFirst item)) calls e h = later_before s.drawn u.drawn (leaves_draws s u (Gave request words (sent.ScramFirst item)) e) (uses calls) h
+with_call s u t (Gave request words (sent.ScramFinal item)) calls e h = later_before s.drawn u.drawn (leaves_draws s u (Gave request words (sent.ScramFinal item)) e) (uses calls) h
+with_call s u t (Gave request words (sent.ScramAgain item)) calls e h = later_before s.drawn u.drawn (leaves_draws s u (Gave request words (sent.ScramAgain item)) e) (uses calls) h
+with_call s u t Failed calls e h = later_before s.drawn u.drawn (leaves_draws s u Failed e) (uses calls) h
+with_call s u t Other calls e h = later_before s.drawn u.drawn (leaves_draws s u Other e) (uses calls) h
+
+are_later : (s t : State) (calls : List Call) → Leave s calls t → AreLater s.drawn (uses calls)
+are_later s t [] h = tt
+are_later s t (call ∷ calls) h = with_call s h.0 t call calls h.1 (are_later h.0 t calls h.2)
+
+-- ---- nothing comes twice
+
+one_nonce : (a b x y : List ℕ) → (let p : Use = (Some a, Some x) in p) ≡ (Some b, Some y) → a ≡ b
+one_nonce a b x y e = let first : Some a ≡ Some b = ap (λ (p : Use). p.0) e in cc
+
+one_count : (a b x y : List ℕ) → (let p : Use = (Some a, Some x) in p) ≡ (Some b, Some y) → x ≡ y
+one_count a b x y e = let second : Some x ≡ Some y = ap (λ (p : Use). p.1) e in cc
+
+apart : (d e : Drawn) (one other : Use) → IsNext d e one → IsLater e other → one ≢ other
+apart d e one other h later same =
+    let both : (let p : Use = (Some h.nonce, Some (nc_text h.count)) in p) ≡ (Some later.nonce, Some (nc_text later.count)) = sym h.is ∙ same ∙ later.is in
+    let nonce : h.nonce ≡ later.nonce = one_nonce h.nonce later.nonce (nc_text h.count) (nc_text later.count) both in
+    let texts : nc_text h.count ≡ nc_text later.count = one_count h.nonce later.nonce (nc_text h.count) (nc_text later.count) both in
+    let count : h.count ≡ later.count = sym (nc_number-nc_text h.count h.fits) ∙ ap nc_number texts ∙ nc_number-nc_text later.count later.fits in
+    let here : count_of e later.nonce ≡ h.count = ap (λ (n : List ℕ). count_of e n) (sym nonce) ∙ h.after in
+    let above : count_of e later.nonce < later.count = later.later in
+    omega arith
+
+others : (d e : Drawn) (one : Use) → IsNext d e one → (more : List Use) → AreLater e more → IsOther one more
+others d e one h [] later = tt
+others d e one h (other ∷ more) later = (apart d e one other h later.0, others d e one h more later.1)
+
+distinct_with : (s u t : State) (call : Call) (calls : List Call) → Leaves s call u → AreLater u.drawn (uses calls) → AreDistinct (uses calls) → AreDistinct (uses (call ∷ calls))
+distinct_with s u t (Gave request words (sent.Digest item)) calls e later h =
+    (others s.drawn u.drawn (use_in (params_of item.rest)) (gave_next s u request words (sent.Digest item) e).1 (uses calls) later, h)
+distinct_with s u t (Gave request words sent.Nothing) calls e later h = h
+distinct_with s u t (Gave request words (sent.ScramFirst item)) calls e later h = h
+distinct_with s u t (Gave request words (sent.ScramFinal item)) calls e later h = h
+distinct_with s u t (Gave request words (sent.ScramAgain item)) calls e later h = h
+distinct_with s u t Failed calls e later h = h
+distinct_with s u t Other calls e later h = h
+
+pub gives_once : GivesOnce
+gives_once s t [] h = tt
+gives_once s t (call ∷ calls) h = distinct_with s h.0 t call calls h.1 (are_later h.0 t calls h.2) (gives_once h.0 t calls h.2)

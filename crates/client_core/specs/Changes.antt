@@ -1,0 +1,30 @@
+-- What a client keeps after a response (RFC 7616 sections 3.3, 3.4 and 3.5).
+use Rattle.std.specs.Prelude.{ℕ, ◌+◌, ◌-◌, ◌^◌, min, List, Option, Some, None}
+use Rattle.client_core.specs.declared.state.Chosen.{Chosen}
+use Rattle.client_core.specs.declared.state.Chosen.TheVariants.{Nothing, Digest}
+use Rattle.client_core.specs.declared.state.State.{State}
+use Rattle.client_core.specs.declared.state.Change.{Change}
+use Rattle.client_core.specs.declared.state.Change.TheVariants.{Keep, Choose, Renew, Forget, Pass, PassTo, Fail}
+
+-- the choice with another nonce, or none
+abbrev pub with_nonce : Option (List ℕ) → Chosen → Chosen
+with_nonce kept Nothing = Nothing
+with_nonce kept (Digest choice) = Digest (record choice { nonce = kept })
+
+-- what would be answered with is forgotten, and the choice stays
+abbrev pub forgetting : State → State
+forgetting s = record s { choice = with_nonce None s.choice }
+
+-- one stale answer more
+abbrev pub one_more : ℕ → ℕ
+one_more stale = min (stale + 1) (2 ^ 32 - 1)
+
+-- what a client keeps after a change
+abbrev pub applied : Change → State → State
+applied Keep s = s
+applied (Choose chosen) s = record s { choice = chosen }
+applied (Renew nonce) s = record s { choice = with_nonce (Some nonce) s.choice; stale = one_more s.stale }
+applied Forget s = forgetting s
+applied Pass s = record s { stale = 0 }
+applied (PassTo nonce) s = record s { choice = with_nonce (Some nonce) s.choice; stale = 0 }
+applied Fail s = record (forgetting s) { stale = 0 }

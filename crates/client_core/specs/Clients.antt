@@ -1,0 +1,44 @@
+-- Clients.
+use Rattle.std.specs.Prelude.{◌≡◌, ℕ, List, [], length, Bool, ◌&&◌, nat_le}
+use Rattle.std.specs.List.{list_all}
+use Rattle.auth_grammar.specs.Plain.{is_plain_name, is_printable}
+use Rattle.auth_grammar.specs.declared.items.Role.{Role}
+use Rattle.http_wire.specs.declared.response.Response.{Response}
+use Rattle.client_core.specs.declared.outcome.Outcome.{Outcome}
+use Rattle.client_core.specs.declared.reading.Said.{Said}
+use Rattle.client_core.specs.declared.request.OutRequest.{OutRequest}
+use Rattle.client_core.specs.declared.request.Sent.{Sent}
+use Rattle.client_core.specs.declared.state.Chosen.TheVariants.{Nothing}
+use Rattle.client_core.specs.declared.state.State.{State}
+use Rattle.client_core.specs.Changes.{applied}
+use Rattle.client_core.specs.Conclusions.{concluded}
+use Rattle.client_core.specs.Readings.{Says}
+
+-- 1 to 128 printable bytes
+abbrev pub is_password : List ℕ → Bool
+is_password text = (nat_le 1 (length text) && nat_le (length text) 128) && list_all is_printable text
+
+-- a name and a password that a client may have
+abbrev pub fits : List ℕ → List ℕ → Bool
+fits name password = is_plain_name name && is_password password
+
+-- a client that has seen nothing
+abbrev pub new_state : Role → List ℕ → List ℕ → State
+new_state role name password = record {
+  role = role;
+  user = record { name = name; password = password };
+  choice = Nothing;
+  stale = 0;
+  drawn = [];
+}
+
+-- The response means this, and then the client keeps that.
+pub record Concludes (s : State) (request : OutRequest) (what : Sent) (response : Response) (outcome : Outcome) (t : State) : Type 0 where
+  pub said : Said
+  pub says : Says s.role what response said
+  pub means : outcome ≡ (concluded s request what response said).outcome
+  pub keeps : t ≡ applied (concluded s request what response said).change s
+
+-- the challenge that was answered is forgotten
+abbrev pub forgotten : State → State
+forgotten s = record s { choice = Nothing }

@@ -1,0 +1,10 @@
+pub mod Changes
+pub mod Choices
+pub mod Clients
+pub mod Cnonces
+pub mod Conclusions
+pub mod Counts
+pub mod Digests
+pub mod Domains
+pub mod Laws
+pub mod Readings

@@ -1,0 +1,141 @@
+//! The client.
+ghost use Rattle.std.specs.Prelude.{◌≡◌, ◌≤◌, ◌<◌, ◌⊎◌, ◌^◌, ◌&&◌, true, false, length, IfErr, IfOk, OnErr, nat_le};
+ghost use Rattle.std.specs.List.{list_all};
+ghost use Rattle.auth_grammar.specs.Plain.{is_plain_name, is_printable};
+ghost use Rattle.client_core.specs.Choices.{choice_of};
+ghost use Rattle.client_core.specs.Clients.{Concludes, fits, forgotten, is_password, new_state};
+ghost use Rattle.client_core.specs.Digests.{DrewAtMost, digest_given};
+
+use crate::choice::{Choice, choose};
+use crate::counts::Counts;
+use crate::outcome::{ClientError, Outcome};
+use crate::reading::said_by;
+use crate::request::{OutRequest, Sent};
+use crate::state::{Chosen, State, User};
+use auth_grammar::{ItemList, Octets, OutOfMemory, Role, is_plain_name, is_printable};
+use http_wire::Response;
+use std::alloc::Global;
+use std::marker::Model;
+
+/// The most bytes of a password.
+pub const PASSWORD_LIMIT: usize = 128;
+
+/// A user at one server or proxy. Contracts see what it keeps.
+#[derive(Drop)]
+pub struct Client {
+    alloc: Global,
+    state: State,
+}
+
+impl Model for Client {
+    ghost use Rattle.std.specs.Prelude.{◌≡◌, true};
+    ghost use Rattle.auth_grammar.specs.Plain.{is_plain_name};
+    ghost use Rattle.client_core.specs.declared.state.State.{State};
+
+    ghost Value = { State };
+
+    ghost view = { λ c. c.state };
+
+    ghost invariant = { λ c. is_plain_name c.state.user.name ≡ true };
+}
+
+impl Client {
+    /// The client of a user, who answers a server's own challenges or a proxy's. `BadName` comes exactly where the name
+    /// isn't 1 to 64 printable bytes without a colon, or the password not 1 to 128 printable bytes.
+    pub fn new(
+        alloc: Global,
+        role: Role,
+        name: &[u8],
+        password: &[u8],
+    ) -> Result<Client, ClientError>
+        ensures ok { IfOk result (λ client. client ≡ new_state role name.now password.now) }
+        ensures fit { IfOk result (λ _. fits name.now password.now ≡ true) }
+        ensures unfit { IfErr result (λ error. (error ≡ ClientError.OutOfMemory)
+            ⊎ ((error ≡ ClientError.BadName) × (fits name.now password.now ≡ false))) }
+    {
+        if !is_plain_name(name) || !is_password(password) {
+            return Err(ClientError::BadName);
+        }
+        let user = User {
+            name: Octets::of(alloc, name)?,
+            password: Octets::of(alloc, password)?,
+        };
+        let state = State {
+            role,
+            user,
+            choice: Chosen::Nothing,
+            stale: 0,
+            drawn: Counts::new(alloc),
+        };
+        Ok(Client { alloc, state })
+    }
+
+    /// The item that is answered, as `choose` says.
+    pub fn choose(items: &ItemList) -> Choice
+        requires { length items.now < 2 ^ 32 }
+        ensures { result ≡ choice_of items.now }
+    {
+        choose(items)
+    }
+
+    /// The credentials for a request (RFC 7616 section 3.4), by 16 random bytes. No nonce is given with a count that was
+    /// given before. Where there is no memory the client is as it was, but that a count that was drawn isn't drawn again.
+    pub fn credentials_for(
+        &mut self,
+        request: &OutRequest,
+        _moment: u64,
+        words: &[u8; 16],
+    ) -> Result<Sent, OutOfMemory>
+        requires { 1 ≤ length request.now.target }
+        ensures ok { IfOk result (λ sent. digest_given self.old request.now words.now self.old.choice ≡ (sent, self.new)) }
+        ensures err { OnErr result (DrewAtMost self.old self.new) }
+    {
+        self.state.give_digest(self.alloc, request, words)
+    }
+
+    /// What the response to a request means that was sent with these credentials. Where there is no memory, and after
+    /// `Malformed`, the client is as it was.
+    pub fn on_response(
+        &mut self,
+        request: &OutRequest,
+        sent: &Sent,
+        response: &Response,
+        _moment: u64,
+    ) -> Result<Outcome, OutOfMemory>
+        ensures ok { IfOk result (λ outcome. Concludes self.old request.now sent.now response.now outcome self.new) }
+        ensures err { OnErr result (self.new ≡ self.old) }
+    {
+        let said = said_by(self.alloc, self.state.role, sent, response)?;
+        let conclusion = self
+            .state
+            .conclude(self.alloc, request, sent, response, &said)?;
+        self.state.apply(conclusion.change);
+        Ok(conclusion.outcome)
+    }
+
+    /// Forgets what is answered with: challenge and nonce. The counts that were drawn stay drawn.
+    pub fn forget(&mut self)
+        ensures { self.new ≡ forgotten self.old }
+    {
+        self.state.choice = Chosen::Nothing;
+    }
+}
+
+/// Whether the text may be a password: 1 to 128 printable bytes.
+fn is_password(text: &[u8]) -> bool
+    ensures { result ≡ is_password text.now }
+{
+    has_password_length(text) && are_printable(text)
+}
+
+fn has_password_length(text: &[u8]) -> bool
+    ensures { result ≡ (nat_le 1 (length text.now) && nat_le (length text.now) 128) }
+{
+    1 <= text.len() && text.len() <= PASSWORD_LIMIT
+}
+
+fn are_printable(text: &[u8]) -> bool
+    ensures { result ≡ list_all is_printable text.now }
+{
+    text.iter().all(|&byte| is_printable(byte))
+}

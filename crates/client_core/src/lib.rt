@@ -1,0 +1,24 @@
+//! The client's side of HTTP authentication (RFC 9110 section 11): which challenge is answered, with which credentials,
+//! and what a response says of the server.
+//!
+//! A `Client` makes no connection itself. Its caller sends what it gives, and hands it the responses.
+#![tactic(auto)]
+
+mod choice;
+mod client;
+mod cnonce;
+mod conclusion;
+mod counts;
+mod digest;
+mod domain;
+mod laws;
+mod outcome;
+mod reading;
+mod request;
+mod state;
+
+pub use choice::Choice;
+pub use client::{Client, PASSWORD_LIMIT};
+pub use laws::{gives_once, mutual_exactly};
+pub use outcome::{ClientError, Outcome};
+pub use request::{OutRequest, Sent};
