@@ -16,6 +16,8 @@ mod outcome;
 mod reading;
 mod request;
 mod state;
+#[cfg(test)]
+mod tests;
 
 pub use choice::Choice;
 pub use client::{Client, PASSWORD_LIMIT};
