@@ -1,5 +1,6 @@
 //! Credentials of the standards, whose `response` is that of the password.
 mod decisions;
+mod exchanges;
 mod targets;
 
 use auth_grammar::{Octets, OctetsList, read_challenges, read_credentials};
