@@ -20,3 +20,4 @@ pub mod ClientFinalLaws
 pub mod ServerFinalLaws
 pub mod ReauthLaws
 pub mod CountLaws
+pub mod BareLaws

@@ -14,3 +14,4 @@ pub mod ClientFinalAnswers
 pub mod ServerFinals
 pub mod ServerFinalAnswers
 pub mod Reauths
+pub mod Bares
