@@ -23,7 +23,8 @@ use Rattle.spaces_map.specs.declared.space.Space.{Space}
 use Rattle.auth_decide.proofs.Folds.{asked_at}
 use Rattle.auth_decide.specs.Asks.{ask_in as asked_in, asked, given_prime, next_ask}
 use Rattle.auth_decide.specs.Candidates.{candidate_of, user_of, with_secret, with_user}
-use Rattle.auth_decide.specs.Credentials.{Names, Reads, credentials_lines, nonce_in, presented, presented_digest}
+use Rattle.auth_decide.specs.Messages.{Names}
+use Rattle.auth_decide.specs.Credentials.{Reads, credentials_lines, nonce_in, other_scheme, presented, presented_digest}
 use Rattle.auth_decide.specs.Stages.{Question, candidate_stage, first_stage, first_stage_in, name_within, presented_stage, protection_space, stage_after, taken_stage}
 use Rattle.auth_decide.specs.declared.candidate.Candidate.{Candidate}
 use Rattle.auth_decide.specs.declared.credentials.Presented.{Presented}
@@ -33,7 +34,8 @@ use Rattle.auth_decide.specs.declared.stages.Stage.TheVariants as stage
 use Rattle.auth_decide.specs.declared.verdict.Ask.TheVariants as asks
 use Rattle.auth_decide.specs.declared.verdict.Verdict.{Verdict}
 use Rattle.auth_decide.specs.declared.verdict.Why.TheVariants as why
-use Rattle.admission.specs.Admission.{Admits, AdmitsExactly, AreValid, IsLiveBehind, IsUnusedBehind, counts_behind, prime_behind, prime_of}
+use Rattle.admission.specs.Admission.{AdmitsExactly, AreValid, IsLiveBehind, prime_behind, prime_of}
+use Rattle.admission.specs.Outcomes.{Admits, IsUnusedBehind, counts_behind}
 use Rattle.admission.specs.Steps.{Step, AreAsked, answers_of, calls_before_nonce}
 use Rattle.admission.proofs.Lines.{IsRead, to_read}
 use Rattle.admission.proofs.Outcomes.{AreUsed, AreValidOf, Outcome, outcome, without_nonce}
@@ -66,7 +68,7 @@ taken q space c w =
 presents_digest : (q : Question) (space : Space) (c : Candidate) → IsRead q space c → presented q.credentials.field ≡ presents.Digest c.credentials
 presents_digest q space c w =
     ap presented w.spelled
-    ∙ ap (λ (b : Bool). if b then presented_digest (credentials_of (params_of w.item.rest)) else presents.OtherScheme) w.digest
+    ∙ ap (λ (b : Bool). if b then presented_digest (credentials_of (params_of w.item.rest)) else other_scheme w.item) w.digest
     ∙ ap presented_digest w.fields
 
 pub well_first : (q : Question) (space : Space) (c : Candidate) → IsRead q space c → first_stage q ≡ candidate_stage q.request c (name_within q.shards q.credentials.nonce)
@@ -75,7 +77,7 @@ well_first q space c w =
     let name = name_within q.shards q.credentials.nonce in
     let store : List Entry = q.site.store in
     ap (first_stage_in q) w.in_space
-    ∙ ap (presented_stage q.request name space store) (presents_digest q space c w)
+    ∙ ap (presented_stage q.request q.shards q.credentials space store) (presents_digest q space c w)
     ∙ ap (λ (b : Bool). if b then taken_stage q.request name (candidate_of space store c.credentials) else stage.Bad why.Uri) w.uri
     ∙ ap (taken_stage q.request name) (taken q space c w)
 
@@ -87,7 +89,7 @@ well_named q space c w reads =
 
 -- ---- the name
 
-below : (shards : ℕ) (n : TableName) → n.shard < shards → name_within shards (Some n) ≡ Some n
+pub below : (shards : ℕ) (n : TableName) → n.shard < shards → name_within shards (Some n) ≡ Some n
 below shards n inside = ap (λ (b : Bool). if b then Some n else None) (let is : nat_lt n.shard shards ≡ true = grind (arith, nat_tests) in is)
 
 above : (shards : ℕ) (n : TableName) → nat_lt n.shard shards ≡ false → name_within shards (Some n) ≡ None
@@ -96,7 +98,7 @@ above shards n out = ap (λ (b : Bool). if b then Some n else None) out
 not_below : (a b : ℕ) → nat_lt a b ≡ false → a < b → ⊥
 not_below a b out inside = grind (arith, nat_tests)
 
-is_below : (a b : ℕ) → nat_lt a b ≡ true → a < b
+pub is_below : (a b : ℕ) → nat_lt a b ≡ true → a < b
 is_below a b e = grind (arith, nat_tests)
 
 -- the nonce is one that the table may have, or it isn't

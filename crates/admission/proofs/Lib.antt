@@ -1,7 +1,12 @@
 pub mod Runs
 pub mod UseTests
 pub mod Lines
+pub mod OneMessage
 pub mod OneReading
 pub mod Outcomes
 pub mod Exact
+pub mod Proofs
+pub mod ScramLines
+pub mod ScramRuns
+pub mod ScramRequests
 pub mod NoOther

@@ -73,7 +73,7 @@ read_item line item (field.Item other) spells single says = ap field.Item (sym (
 read_item line item field.Malformed spells single says = absurd (not_refused line item says.0 spells single says.1 says.2)
 
 -- one line was read
-lines_one : (lines : List (List ℕ)) (item : Item) → LinesSay lines (field.Item item) → (line : List ℕ) × (lines ≡ line ∷ []) × SpellsOne line item
+pub lines_one : (lines : List (List ℕ)) (item : Item) → LinesSay lines (field.Item item) → (line : List ℕ) × (lines ≡ line ∷ []) × SpellsOne line item
 lines_one [] item says = absurd (let no : field.Item item ≡ field.Absent = says in cc)
 lines_one (line ∷ []) item says = (line, refl, says)
 lines_one (line ∷ next ∷ lines) item says = absurd (let no : field.Item item ≡ field.Malformed = says in cc)

@@ -1,5 +1,5 @@
 -- Who is admitted sent a well-formed request, and had its count answered Fresh.
-use Rattle.std.proofs.Common.{◌≡◌, inl, inr, ℕ, Bool, true, false, if◌then◌else◌, codes, Option, Some, None, List, [], Result, Ok, Err, refl, sym, ap, ◌∙◌, subst}
+use Rattle.std.proofs.Common.{◌≡◌, ◌⊎◌, inl, inr, ℕ, Bool, true, false, if◌then◌else◌, codes, Option, Some, None, List, [], Result, Ok, Err, refl, sym, ap, ◌∙◌, subst}
 use Rattle.std.specs.Option.{option_and_then, option_map}
 use Rattle.auth_grammar.specs.Names.{same_name, params_of}
 use Rattle.auth_grammar.specs.declared.items.Item.{Item}
@@ -17,14 +17,15 @@ use Rattle.spaces_map.specs.declared.space.Space.{Space}
 use Rattle.auth_decide.proofs.Folds.{asked_at}
 use Rattle.auth_decide.specs.Asks.{ask_in as asked_in, asked, use_of}
 use Rattle.auth_decide.specs.Candidates.{candidate_of, is_offered, user_of, with_secret, with_user}
-use Rattle.auth_decide.specs.Credentials.{presented, presented_digest}
+use Rattle.auth_decide.specs.Credentials.{Reads, credentials_lines, other_scheme, presented, presented_digest}
+use Rattle.auth_decide.specs.Messages.{scram_scheme}
 use Rattle.auth_decide.specs.Paths.{correspond}
 use Rattle.auth_decide.specs.Stages.{Question, digest_stage, first_stage, first_stage_in, mode_stage, name_within, presented_stage, protection_space, stage_at, taken_stage}
 use Rattle.auth_decide.specs.declared.candidate.Candidate.{Candidate}
 use Rattle.auth_decide.specs.declared.credentials.CredentialsField.{CredentialsField}
 use Rattle.auth_decide.specs.declared.credentials.CredentialsField.TheVariants as field
 use Rattle.auth_decide.specs.declared.credentials.Presented.{Presented}
-use Rattle.auth_decide.specs.declared.credentials.Presented.TheVariants.{Nothing, Malformed, OtherScheme, Digest}
+use Rattle.auth_decide.specs.declared.credentials.Presented.TheVariants.{Nothing, Malformed, OtherScheme, Digest, Scram}
 use Rattle.auth_decide.specs.declared.stages.Purpose.TheVariants as purpose
 use Rattle.auth_decide.specs.declared.stages.Stage.TheVariants as stage
 use Rattle.auth_decide.specs.declared.verdict.Ask.TheVariants as asks
@@ -32,12 +33,15 @@ use Rattle.auth_decide.specs.declared.verdict.Verdict.{Verdict}
 use Rattle.auth_decide.specs.declared.verdict.Verdict.TheVariants.{Open, Bad}
 use Rattle.auth_decide.specs.declared.verdict.Why.{Why}
 use Rattle.auth_decide.specs.declared.verdict.Why.TheVariants as why
-use Rattle.admission.specs.Admission.{Admits, AdmitsNoOther, EndsFresh}
+use Rattle.admission.specs.Admission.{AdmitsNoOther, EndsFresh, IsAdmitted, IsDigestAdmitted}
+use Rattle.admission.specs.Exchanges.{IsScramAdmitted}
+use Rattle.admission.specs.Outcomes.{Admits}
 use Rattle.admission.specs.Steps.{Step, AreAsked, answers_of}
 use Rattle.admission.proofs.Exact.{Held, NotHeld, IsHeld, held_or_not, run_from, well_named, well_run}
 use Rattle.admission.proofs.Lines.{IsRead, from_read}
 use Rattle.admission.proofs.Outcomes.{AreUsed, Outcome, outcome, without_nonce}
 use Rattle.admission.proofs.Runs.{Run, challenged, drawing, ended}
+use Rattle.admission.proofs.ScramRequests.{scram_found}
 
 -- ---- credentials that are taken
 
@@ -67,14 +71,18 @@ record PresentsDigest (f : CredentialsField) (c : Credentials) : Type 0 where
   digest : same_name item.scheme (codes "Digest") ≡ true
   fields : credentials_of (params_of item.rest) ≡ Ok c
 
+not_digest : {c : Credentials} (b : Bool) → (if b then Scram else OtherScheme) ≡ Digest c → ⊥
+not_digest {c} true e = (let no : Scram ≡ Digest c = e in cc)
+not_digest {c} false e = (let no : OtherScheme ≡ Digest c = e in cc)
+
 presents_digest : (f : CredentialsField) (c : Credentials) → presented f ≡ Digest c → PresentsDigest f c
 presents_digest field.Absent c e = absurd (let no : Nothing ≡ Digest c = e in cc)
 presents_digest field.Malformed c e = absurd (let no : Malformed why.Credentials ≡ Digest c = e in cc)
 presents_digest (field.Item item) c e = by (same_name item.scheme (codes "Digest")) refl e
   where
-    by : (b : Bool) → same_name item.scheme (codes "Digest") ≡ b → (if b then presented_digest (credentials_of (params_of item.rest)) else OtherScheme) ≡ Digest c → PresentsDigest (field.Item item) c
+    by : (b : Bool) → same_name item.scheme (codes "Digest") ≡ b → (if b then presented_digest (credentials_of (params_of item.rest)) else other_scheme item) ≡ Digest c → PresentsDigest (field.Item item) c
     by true is e' = record { item = item; spelled = refl; digest = is; fields = digest_read (credentials_of (params_of item.rest)) c e' }
-    by false is e' = absurd (let no : OtherScheme ≡ Digest c = e' in cc)
+    by false is e' = absurd (not_digest (same_name item.scheme scram_scheme) e')
 
 read_of : (q : Question) (space : Space) (cr : Credentials) (c : Candidate) → protection_space q.role q.request q.site ≡ Some space → presented q.credentials.field ≡ Digest cr
     → correspond cr.uri q.request.target ≡ true → candidate_of space q.site.store cr ≡ Some c → IsRead q space c
@@ -99,6 +107,10 @@ read_of q space cr c place is uri taken =
 
 abbrev Found : Question → Type 0
 Found q = (space : Space) × (c : Candidate) × IsRead q space c
+
+-- credentials of Digest that are taken, or a client-final that ended so
+abbrev FoundOr : Sizes → Question → List ℕ → List Step → Type 0
+FoundOr sizes q user steps = Found q ⊎ IsScramAdmitted sizes q user steps
 
 open_none : (sizes : Sizes) (q : Question) (space : Space) (steps : List Step) (verdict : Verdict) (user : List ℕ) → Run sizes q space stage.Open steps verdict → Admits user verdict → ⊥
 open_none sizes q space steps verdict user run a = subst (λ (v : Verdict). Admits user v) (ended sizes q space stage.Open (Open []) refl steps verdict run).1 a
@@ -130,25 +142,28 @@ digest_found sizes q space cr steps verdict user place is run a = by (correspond
     by false same = absurd (bad_none sizes q space why.Uri steps verdict user (there false same) a)
 
 presented_found : (sizes : Sizes) (q : Question) (space : Space) (steps : List Step) (verdict : Verdict) (user : List ℕ) → protection_space q.role q.request q.site ≡ Some space
-    → (p : Presented) → presented q.credentials.field ≡ p → Run sizes q space (presented_stage q.request (name_within q.shards q.credentials.nonce) space q.site.store p) steps verdict → Admits user verdict → Found q
-presented_found sizes q space steps verdict user place Nothing is run a = absurd (mode_none sizes q space space.mode steps verdict user run a)
-presented_found sizes q space steps verdict user place (Malformed w) is run a = absurd (bad_none sizes q space w steps verdict user run a)
-presented_found sizes q space steps verdict user place OtherScheme is run a = absurd ((challenged sizes q space false steps verdict run).1 user a)
-presented_found sizes q space steps verdict user place (Digest cr) is run a = digest_found sizes q space cr steps verdict user place is run a
+    → Reads (credentials_lines q.role q.request) q.credentials
+    → (p : Presented) → presented q.credentials.field ≡ p → Run sizes q space (presented_stage q.request q.shards q.credentials space q.site.store p) steps verdict → Admits user verdict → FoundOr sizes q user steps
+presented_found sizes q space steps verdict user place reads Nothing is run a = absurd (mode_none sizes q space space.mode steps verdict user run a)
+presented_found sizes q space steps verdict user place reads (Malformed w) is run a = absurd (bad_none sizes q space w steps verdict user run a)
+presented_found sizes q space steps verdict user place reads OtherScheme is run a = absurd ((challenged sizes q space false steps verdict run).1 user a)
+presented_found sizes q space steps verdict user place reads (Digest cr) is run a = inl (digest_found sizes q space cr steps verdict user place is run a)
+presented_found sizes q space steps verdict user place reads Scram is run a = inr (scram_found sizes q space steps verdict user place reads is run a)
 
 first_in : (q : Question) (o : Option Space) → protection_space q.role q.request q.site ≡ o → first_stage q ≡ first_stage_in q o
 unfolding first_stage
 first_in q o is = ap (first_stage_in q) is
 
 found_in : (sizes : Sizes) (q : Question) (steps : List Step) (verdict : Verdict) (user : List ℕ) → AreAsked sizes q steps → asked q (answers_of sizes steps) ≡ asks.Verdict verdict
-    → (o : Option Space) → protection_space q.role q.request q.site ≡ o → Admits user verdict → Found q
-found_in sizes q steps verdict user all ends None place a =
+    → Reads (credentials_lines q.role q.request) q.credentials
+    → (o : Option Space) → protection_space q.role q.request q.site ≡ o → Admits user verdict → FoundOr sizes q user steps
+found_in sizes q steps verdict user all ends reads None place a =
     let open_ask : asks.Verdict (Open []) ≡ asks.Verdict verdict =
     sym (ap (λ (o : Option Space). asked_in q o (stage_at q (answers_of sizes steps))) place) ∙ sym (asked_at q (answers_of sizes steps)) ∙ ends in
     let is : verdict ≡ Open [] = cc in
     absurd (subst (λ (v : Verdict). Admits user v) is a)
-found_in sizes q steps verdict user all ends (Some space) place a =
-    presented_found sizes q space steps verdict user place (presented q.credentials.field) refl
+found_in sizes q steps verdict user all ends reads (Some space) place a =
+    presented_found sizes q space steps verdict user place reads (presented q.credentials.field) refl
     (run_from sizes q space (first_stage_in q (Some space)) steps verdict place (first_in q (Some space) place) all ends) a
 
 -- ---- how it ended
@@ -185,8 +200,15 @@ admits_last sizes q space c steps verdict user w all ends (NotHeld out none) a =
 admits_last sizes q space c steps verdict user w all ends (IsHeld n is text form inside) a =
     outcome_last sizes q space c n steps verdict user text (outcome sizes q space c n steps verdict (well_run sizes q space c (Some n) steps verdict w is all ends)) a
 
-pub no_other : AdmitsNoOther
-no_other sizes q reads steps all verdict ends user a =
-    let f = found_in sizes q steps verdict user all ends (protection_space q.role q.request q.site) refl a in
+digest_admitted : (sizes : Sizes) (q : Question) (steps : List Step) (verdict : Verdict) (user : List ℕ) → Reads (credentials_lines q.role q.request) q.credentials → AreAsked sizes q steps
+    → asked q (answers_of sizes steps) ≡ asks.Verdict verdict → Admits user verdict → Found q → IsDigestAdmitted sizes q user steps
+digest_admitted sizes q steps verdict user reads all ends a f =
     let last = admits_last sizes q f.0 f.1 steps verdict user f.2 all ends (held_or_not q f.1 (well_named q f.0 f.1 f.2 reads)) a in
     record { space = f.0; candidate = f.1; well_formed = from_read q f.0 f.1 f.2 reads; its_user = last.0; used = last.1 }
+
+pub no_other : AdmitsNoOther
+no_other sizes q reads steps all verdict ends user a = by (found_in sizes q steps verdict user all ends reads (protection_space q.role q.request q.site) refl a)
+  where
+    by : FoundOr sizes q user steps → IsAdmitted sizes q user steps
+    by (inl f) = inl (digest_admitted sizes q steps verdict user reads all ends a f)
+    by (inr scram) = inr scram

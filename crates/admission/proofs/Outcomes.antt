@@ -20,7 +20,8 @@ use Rattle.auth_decide.specs.declared.candidate.Candidate.{Candidate}
 use Rattle.auth_decide.specs.declared.stages.Stage.TheVariants as stage
 use Rattle.auth_decide.specs.declared.verdict.Ask.TheVariants as asks
 use Rattle.auth_decide.specs.declared.verdict.Verdict.{Verdict}
-use Rattle.admission.specs.Admission.{Admits, IsLiveBehind, IsUnusedBehind, prime_behind, prime_of, prime_or}
+use Rattle.admission.specs.Admission.{IsLiveBehind, prime_behind, prime_of, prime_or}
+use Rattle.admission.specs.Outcomes.{Admits, IsUnusedBehind}
 use Rattle.admission.specs.Steps.{Step, Called, OnlyIssue, calls_before_nonce}
 use Rattle.admission.proofs.Runs.{IsUseOf, Run, at_call, challenged, use_reply_of, use_step, uses_none, using}
 

@@ -16,6 +16,7 @@ use Rattle.spaces_map.specs.declared.space.Space.{Space}
 use Rattle.auth_decide.specs.Asks.{admission, ask_at, issue, use_of, verdict_with}
 use Rattle.auth_decide.specs.Stages.{Question, admitted_stage, challenge_stage, new_name, shard_for, stage_after, stage_after_use}
 use Rattle.auth_decide.specs.declared.candidate.Candidate.{Candidate}
+use Rattle.auth_decide.specs.declared.challenges.Stale.TheVariants as stales
 use Rattle.auth_decide.specs.declared.stages.Purpose.{Purpose}
 use Rattle.auth_decide.specs.declared.stages.Purpose.TheVariants as purpose
 use Rattle.auth_decide.specs.declared.stages.Stage.{Stage}
@@ -25,7 +26,7 @@ use Rattle.auth_decide.specs.declared.verdict.Ask.{Ask}
 use Rattle.auth_decide.specs.declared.verdict.Ask.TheVariants as asks
 use Rattle.auth_decide.specs.declared.verdict.Verdict.{Verdict}
 use Rattle.auth_decide.specs.declared.verdict.Verdict.TheVariants.{Challenge}
-use Rattle.admission.specs.Admission.{Admits}
+use Rattle.admission.specs.Outcomes.{Admits}
 use Rattle.admission.specs.Steps.{Step, Drew, Called, IsIssue, OnlyIssue, answer_of, answers_of, ask_of, calls_before, is_use}
 
 abbrev pub ask_in : Question → Space → Stage → Ask
@@ -110,7 +111,7 @@ drawing sizes q space purpose (Drew words ∷ step ∷ rest) verdict run =
 pub challenged : (sizes : Sizes) (q : Question) (space : Space) (stale : Bool) (steps : List Step) (verdict : Verdict) → Run sizes q space (challenge_stage stale) steps verdict
     → OnlyIssue steps × ((user : List ℕ) → Admits user verdict → ⊥)
 challenged sizes q space stale steps verdict run =
-    let i = drawing sizes q space (purpose.Challenge stale) steps verdict run in
+    let i = drawing sizes q space (purpose.Challenge (if stale then stales.Digest else stales.Nothing)) steps verdict run in
     (i.only, λ user a. subst (λ (v : Verdict). Admits user v) i.is a)
 
 -- ---- neither a draw nor an issue uses or looks up a nonce
@@ -163,7 +164,7 @@ admitted sizes q space c prime number rest verdict = by (nat_lt number NEXT_NONC
         let i = drawing sizes q space (purpose.Next c prime) rest verdict run in
         use_admits c prime (Some i.text) number rest verdict i.only i.is
 
-mismatched : (sizes : Sizes) (q : Question) (space : Space) (rest : List Step) (verdict : Verdict) → Run sizes q space stage.Mismatched rest verdict
+pub mismatched : (sizes : Sizes) (q : Question) (space : Space) (rest : List Step) (verdict : Verdict) → Run sizes q space stage.Mismatched rest verdict
     → OnlyIssue rest × ((user : List ℕ) → Admits user verdict → ⊥)
 mismatched sizes q space rest verdict run =
     let e = ended sizes q space stage.Mismatched (Challenge []) refl rest verdict run in

@@ -1,5 +1,5 @@
 -- Who is admitted (RFC 7616 section 3.4.6).
-use Rattle.std.specs.Prelude.{◌≡◌, ◌≢◌, ◌↔◌, ℕ, ◌+◌, ◌<◌, true, false, codes, List, [], ◌∷◌, ◌++◌, Option, Some, None, Ok, All, IfSome}
+use Rattle.std.specs.Prelude.{◌≡◌, ◌↔◌, ◌⊎◌, ℕ, ◌<◌, true, false, codes, List, [], ◌∷◌, ◌++◌, Option, Some, None, Ok, IfSome}
 use Rattle.std.specs.Option.{option_and_then}
 use Rattle.arrayvec.specs.ArrayVec.{ArrayVec}
 use Rattle.auth_grammar.specs.Items.{SpellsCredentials}
@@ -11,15 +11,13 @@ use Rattle.digest_fields.specs.Nc.{nc_number}
 use Rattle.nonce_shard.specs.History.{time_at}
 use Rattle.nonce_shard.specs.Laws.{Uses}
 use Rattle.nonce_shard.specs.Names.{name_text, IsName}
-use Rattle.nonce_shard.specs.Nonces.{is_live, admitted, first_prime}
+use Rattle.nonce_shard.specs.Nonces.{is_live, first_prime}
 use Rattle.nonce_shard.specs.Replies.{answered, reply}
 use Rattle.nonce_shard.specs.declared.calls.Call.{Call}
 use Rattle.nonce_shard.specs.declared.calls.NonceKind.TheVariants.{Digest}
 use Rattle.nonce_shard.specs.declared.calls.Reply.TheVariants.{Fresh}
 use Rattle.nonce_shard.specs.declared.names.TableName.{TableName}
 use Rattle.nonce_shard.specs.declared.sizes.Sizes.{Sizes}
-use Rattle.count_window.specs.Window.{high}
-use Rattle.count_window.specs.declared.window.TheConstants.{WIDTH}
 use Rattle.spaces_map.specs.declared.space.Space.{Space}
 use Rattle.auth_decide.specs.Asks.{asked}
 use Rattle.auth_decide.specs.Candidates.{is_offered, user_of}
@@ -31,7 +29,8 @@ use Rattle.auth_decide.specs.declared.candidate.Candidate.{Candidate}
 use Rattle.auth_decide.specs.declared.credentials.RequestCredentials.{RequestCredentials}
 use Rattle.auth_decide.specs.declared.verdict.Ask.TheVariants as ask
 use Rattle.auth_decide.specs.declared.verdict.Verdict.{Verdict}
-use Rattle.auth_decide.specs.declared.verdict.Verdict.TheVariants.{Admit, Open, Challenge, Bad}
+use Rattle.admission.specs.Exchanges.{IsScramAdmitted}
+use Rattle.admission.specs.Outcomes.{Admits, IsUnusedBehind}
 use Rattle.admission.specs.Steps.{Step, Called, AreAsked, OnlyIssue, answers_of, calls_before_first, calls_before_nonce, is_peek}
 
 -- A request is well-formed for a space, with these credentials: its one line of credentials spells one item of Digest whose
@@ -58,15 +57,6 @@ abbrev pub IsLiveBehind : Sizes → Question → Space → TableName → List Ca
 IsLiveBehind sizes q space nonce before =
     let past = answered sizes nonce.shard before in
     is_live sizes nonce.shard past nonce Digest space.number (time_at past q.moment) ≡ true
-
--- the counts of it that were answered Fresh
-abbrev pub counts_behind : Sizes → TableName → List Call → List ℕ
-counts_behind sizes nonce before = admitted (answered sizes nonce.shard before) nonce
-
--- A count of it is in the window below the greatest that was admitted, and isn't one of those.
-pub record IsUnusedBehind (sizes : Sizes) (nonce : TableName) (count : ℕ) (before : List Call) : Type 0 where
-  pub in_window : high (counts_behind sizes nonce before) < count + WIDTH
-  pub new : All (λ used. used ≢ count) (counts_behind sizes nonce before)
 
 -- the client's nonce that began its session, if one has begun
 abbrev pub prime_behind : Sizes → TableName → List Call → Option (ArrayVec ℕ)
@@ -98,13 +88,6 @@ pub record AreValid (sizes : Sizes) (q : Question) (space : Space) (c : Candidat
 
 -- ---- the laws
 
--- admitted as this user
-abbrev pub Admits : List ℕ → Verdict → Type 0
-Admits user (Admit named proof) = named ≡ user
-Admits user (Open items) = ⊥
-Admits user (Challenge items) = ⊥
-Admits user (Bad why) = ⊥
-
 -- Whatever was drawn, and behind whatever calls its own were answered, a well-formed request is admitted, as its user, exactly
 -- where its credentials are valid.
 abbrev pub AdmitsExactly : Type 0
@@ -127,13 +110,17 @@ pub record EndsFresh (sizes : Sizes) (text : List ℕ) (count : ℕ) (steps : Li
   pub fresh : reply sizes nonce.shard calls call ≡ Fresh number
   pub nothing_else : OnlyIssue after
 
--- Who is admitted sent a well-formed request, is its user, and had its count answered Fresh.
-pub record IsAdmitted (sizes : Sizes) (q : Question) (user : List ℕ) (steps : List Step) : Type 0 where
+-- Who is admitted by Digest sent a well-formed request, is its user, and had its count answered Fresh.
+pub record IsDigestAdmitted (sizes : Sizes) (q : Question) (user : List ℕ) (steps : List Step) : Type 0 where
   pub space : Space
   pub candidate : Candidate
   pub well_formed : IsWellFormed q space candidate
   pub its_user : candidate.user ≡ user
   pub used : EndsFresh sizes candidate.credentials.nonce (nc_number candidate.credentials.nc) steps
+
+-- by Digest, or by SCRAM-SHA-256
+abbrev pub IsAdmitted : Sizes → Question → List ℕ → List Step → Type 0
+IsAdmitted sizes q user steps = IsDigestAdmitted sizes q user steps ⊎ IsScramAdmitted sizes q user steps
 
 abbrev pub AdmitsNoOther : Type 0
 AdmitsNoOther = (sizes : Sizes) (q : Question) → Reads (credentials_lines q.role q.request) q.credentials

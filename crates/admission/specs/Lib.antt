@@ -1,3 +1,5 @@
 pub mod Steps
 pub mod Places
+pub mod Outcomes
+pub mod Exchanges
 pub mod Admission

@@ -5,4 +5,4 @@
 
 mod laws;
 
-pub use laws::{admits_exactly, admits_no_other, reads_one_way};
+pub use laws::{admits_again, admits_by_try, admits_exactly, admits_no_other, reads_one_way};

@@ -17,7 +17,23 @@ use Rattle.auth_decide.specs.Credentials.{presented}
 use Rattle.auth_decide.specs.Decisions.{IsCallFor, IsDraw, IsOutside, asks_left}
 use Rattle.auth_decide.specs.Paths.{correspond}
 use Rattle.auth_decide.specs.Responses.{is_right}
-use Rattle.auth_decide.specs.Stages.{Answer, Question, Replied, Words, admitted_stage, candidate_stage, challenge_stage, digest_stage, first_stage, first_stage_in, mode_stage, name_within, presented_stage, protection_space, response_stage, right_stage, stage_after, stage_after_issue, stage_after_peek, stage_after_use, stage_at, taken_stage}
+use Rattle.std.specs.List.{ends_with}
+use Rattle.std.specs.Prelude.{nat_eq}
+use Rattle.cred_store.specs.LookUps.{scram_of}
+use Rattle.nonce_shard.specs.Names.{name_text}
+use Rattle.scram_proof.specs.declared.keys.ScramKeys.{ScramKeys}
+use Rattle.auth_decide.specs.Challenges.{offers_scram}
+use Rattle.auth_decide.specs.Exchanges.{recalled_user, taken_user}
+use Rattle.auth_decide.specs.declared.credentials.RequestCredentials.{RequestCredentials}
+use Rattle.auth_decide.specs.declared.scram_exchange.Attempt.{Attempt}
+use Rattle.auth_decide.specs.declared.scram_exchange.NewExchange.{NewExchange}
+use Rattle.auth_decide.specs.declared.scram_exchange.ScramUser.{ScramUser}
+use Rattle.auth_decide.specs.declared.scram_message.Again.{Again}
+use Rattle.auth_decide.specs.declared.scram_message.FinalMessage.{FinalMessage}
+use Rattle.auth_decide.specs.declared.scram_message.FirstMessage.{FirstMessage}
+use Rattle.auth_decide.specs.declared.scram_message.ScramMessage.{ScramMessage}
+use Rattle.auth_decide.specs.declared.scram_message.ScramMessage.TheVariants as message
+use Rattle.auth_decide.specs.Stages.{Answer, Question, Replied, Words, admitted_stage, again_stage, attempt_stage, candidate_stage, challenge_stage, digest_stage, final_stage, first_message_stage, first_stage, first_stage_in, keeping_stage, keyed_stage, message_stage, mode_stage, name_within, presented_stage, protection_space, proved_stage, response_stage, reusing_stage, right_stage, scram_stage, stage_after, stage_after_issue, stage_after_keep, stage_after_open, stage_after_peek, stage_after_recall, stage_after_reuse, stage_after_take, stage_after_use, stage_at, taken_stage, takes_realm}
 use Rattle.auth_decide.specs.declared.candidate.Candidate.{Candidate}
 use Rattle.auth_decide.specs.declared.credentials.Presented.{Presented}
 use Rattle.auth_decide.specs.declared.credentials.Presented.TheVariants as presents
@@ -65,12 +81,57 @@ issue_left : (shards : ℕ) (purpose : Purpose) (words : List ℕ) (r : Reply) �
 issue_left shards purpose words (reply.Issued serial) = omega arith
 issue_left shards purpose words _ = omega arith
 
+open_left : (shards : ℕ) (e : NewExchange) (words : List ℕ) (r : Reply) → asks_left (stage_after_open shards e words r) ≤ 0
+open_left shards e words (reply.Opened serial) = omega arith
+open_left shards e words _ = omega arith
+
+keeping_left : (o : Option ScramUser) → asks_left (keeping_stage o) ≤ 2
+keeping_left None = omega arith
+keeping_left (Some user) = omega arith
+
+take_left : (store : List Entry) (a : Attempt) (r : Reply) → asks_left (stage_after_take store a r) ≤ 2
+take_left store a (reply.Taken e) = keeping_left (taken_user store a e)
+take_left store a reply.Gone = omega arith
+take_left store a _ = omega arith
+
+keep_left : (user : ScramUser) (r : Reply) → asks_left (stage_after_keep user r) ≤ 0
+keep_left user reply.Kept = omega arith
+keep_left user reply.Gone = omega arith
+keep_left user _ = omega arith
+
+proved_left : (again : Again) (o : Option ScramUser) → asks_left (proved_stage again o) ≤ 3
+proved_left again None = omega arith
+proved_left again (Some user) = by again.sr
+  where
+    by : (o : Option TableName) → asks_left (reusing_stage user again.count o) ≤ 3
+    by None = omega arith
+    by (Some sr) = omega arith
+
+recall_left : (store : List Entry) (a : Attempt) (again : Again) (r : Reply) → asks_left (stage_after_recall store a again r) ≤ 3
+recall_left store a again (reply.Session e) = proved_left again (recalled_user store a e)
+recall_left store a again reply.Gone = omega arith
+recall_left store a again _ = omega arith
+
+reuse_left : (user : ScramUser) (r : Reply) → asks_left (stage_after_reuse user r) ≤ 2
+reuse_left user (reply.Fresh uses) = omega arith
+reuse_left user reply.Gone = omega arith
+reuse_left user (reply.Behind high) = omega arith
+reuse_left user reply.Repeated = omega arith
+reuse_left user reply.OtherSession = omega arith
+reuse_left user _ = omega arith
+
 after_left : (q : Question) (s : Stage) (a : Answer) → asks_left (stage_after q s a) ≤ asks_left s - 1
 after_left q (stage.Drawing purpose) (Words words) = omega arith
+after_left q (stage.Beginning e) (Words words) = omega arith
 after_left q _ (Words words) = omega arith
 after_left q (stage.Issuing purpose words) (Replied r) = (let few = issue_left q.shards purpose words r in omega (arith, few))
 after_left q (stage.Peeking c nonce) (Replied r) = (let few = peek_left q.request c nonce r in omega (arith, few))
 after_left q (stage.Using c prime nonce) (Replied r) = (let few = use_left c prime r in omega (arith, few))
+after_left q (stage.Opening e words) (Replied r) = (let few = open_left q.shards e words r in omega (arith, few))
+after_left q (stage.Taking a) (Replied r) = (let few = take_left q.site.store a r in omega (arith, few))
+after_left q (stage.Keeping user) (Replied r) = (let few = keep_left user r in omega (arith, few))
+after_left q (stage.Recalling a again) (Replied r) = (let few = recall_left q.site.store a again r in omega (arith, few))
+after_left q (stage.Reusing user sr count) (Replied r) = (let few = reuse_left user r in omega (arith, few))
 after_left q _ (Replied r) = omega arith
 
 outside_left : (q : Question) (o : Option Space) (s : Stage) → IsOutside (ask_in q o s) → 1 ≤ asks_left s
@@ -83,6 +144,14 @@ outside_left q (Some space) (stage.Issued purpose nonce) out = absurd out
 outside_left q (Some space) stage.Open out = absurd out
 outside_left q (Some space) (stage.Bad why) out = absurd out
 outside_left q (Some space) (stage.Admitted c prime) out = absurd out
+outside_left q (Some space) (stage.Beginning e) out = omega arith
+outside_left q (Some space) (stage.Opening e words) out = omega arith
+outside_left q (Some space) (stage.Taking a) out = omega arith
+outside_left q (Some space) (stage.Keeping user) out = omega arith
+outside_left q (Some space) (stage.Recalling a again) out = omega arith
+outside_left q (Some space) (stage.Reusing user sr count) out = omega arith
+outside_left q (Some space) (stage.Continued e sid) out = absurd out
+outside_left q (Some space) (stage.Authenticated user) out = absurd out
 outside_left q (Some space) stage.Mismatched out = absurd out
 
 fewer : (q : Question) (s : Stage) (a : Answer) → IsOutside (next_ask q s) → asks_left (stage_after q s a) < asks_left s
@@ -133,15 +202,50 @@ mode_left mode.Open = omega arith
 mode_left mode.Optional = omega arith
 mode_left mode.Required = omega arith
 
-presented_left : (request : Request) (nonce : Option TableName) (space : Space) (store : List Entry) (p : Presented) → asks_left (presented_stage request nonce space store p) ≤ 4
-presented_left request name space store presents.Nothing = mode_left space.mode
-presented_left request name space store (presents.Malformed why) = omega arith
-presented_left request name space store presents.OtherScheme = omega arith
-presented_left request name space store (presents.Digest c) = digest_left request name space store c
+again_left : (shards : ℕ) (a : Attempt) (o : Option Again) → asks_left (again_stage shards a o) ≤ 4
+again_left shards a None = omega arith
+again_left shards a (Some again) = omega arith
+
+final_left : (shards : ℕ) (realm : List ℕ) (sid : Option TableName) (m : FinalMessage) (o : Option Again) → asks_left (final_stage shards realm sid m o) ≤ 4
+final_left shards realm None m o = omega arith
+final_left shards realm (Some sid) m o = by (ends_with nat_eq m.nonce (name_text sid))
+  where
+    by : (ends : Bool) → asks_left (if ends then stage.Taking (record { realm = realm; sid = sid; message = m }) else again_stage shards (record { realm = realm; sid = sid; message = m }) o) ≤ 4
+    by true = omega arith
+    by false = again_left shards (record { realm = realm; sid = sid; message = m }) o
+
+keyed_left : (m : FirstMessage) (o : Option ScramKeys) → asks_left (keyed_stage m o) ≤ 4
+keyed_left m None = omega arith
+keyed_left m (Some keys) = omega arith
+
+message_left : (shards : ℕ) (realm : List ℕ) (store : List Entry) (m : ScramMessage) → asks_left (message_stage shards realm store m) ≤ 4
+message_left shards realm store message.Absent = omega arith
+message_left shards realm store message.Malformed = omega arith
+message_left shards realm store message.WithoutSid = omega arith
+message_left shards realm store (message.First m) = by (takes_realm m.realm realm)
+  where
+    by : (takes : Bool) → asks_left (if takes then keyed_stage m (scram_of m.name realm store) else challenge_stage false) ≤ 4
+    by true = keyed_left m (scram_of m.name realm store)
+    by false = omega arith
+message_left shards realm store (message.Final sid m again) = final_left shards realm (name_within shards sid) m again
+
+scram_left : (shards : ℕ) (space : Space) (store : List Entry) (m : ScramMessage) → asks_left (scram_stage shards space store m) ≤ 4
+scram_left shards space store m = by (offers_scram space.offers)
+  where
+    by : (offers : Bool) → asks_left (if offers then message_stage shards space.realm store m else challenge_stage false) ≤ 4
+    by true = message_left shards space.realm store m
+    by false = omega arith
+
+presented_left : (request : Request) (shards : ℕ) (c : RequestCredentials) (space : Space) (store : List Entry) (p : Presented) → asks_left (presented_stage request shards c space store p) ≤ 4
+presented_left request shards c space store presents.Nothing = mode_left space.mode
+presented_left request shards c space store (presents.Malformed why) = omega arith
+presented_left request shards c space store presents.OtherScheme = omega arith
+presented_left request shards c space store (presents.Digest d) = digest_left request (name_within shards c.nonce) space store d
+presented_left request shards c space store presents.Scram = scram_left shards space store c.scram
 
 first_left_in : (q : Question) (o : Option Space) → asks_left (first_stage_in q o) ≤ 4
 first_left_in q None = omega arith
-first_left_in q (Some space) = presented_left q.request (name_within q.shards q.credentials.nonce) space q.site.store (presented q.credentials.field)
+first_left_in q (Some space) = presented_left q.request q.shards q.credentials space q.site.store (presented q.credentials.field)
 
 pub first_left : (q : Question) → asks_left (first_stage q) ≤ 4
 unfolding first_stage

@@ -4,3 +4,4 @@ pub mod Few
 pub mod Within
 pub mod Calls
 pub mod OneLine
+pub mod Refusals

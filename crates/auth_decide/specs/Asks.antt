@@ -6,13 +6,16 @@ use Rattle.digest_fields.specs.Nc.{nc_number}
 use Rattle.nonce_shard.specs.Names.{name_text}
 use Rattle.nonce_shard.specs.declared.calls.Call.{Call}
 use Rattle.nonce_shard.specs.declared.calls.NonceKind.TheVariants as kind
-use Rattle.nonce_shard.specs.declared.calls.What.TheVariants.{Issue, Peek, Use}
+use Rattle.nonce_shard.specs.declared.calls.What.TheVariants.{Issue, Peek, Use, Open as OpenExchange, Take, Keep, Recall}
 use Rattle.nonce_shard.specs.declared.names.TableName.{TableName}
 use Rattle.spaces_map.specs.declared.space.Space.{Space}
-use Rattle.auth_decide.specs.Challenges.{items_of}
-use Rattle.auth_decide.specs.Infos.{proof_of}
+use Rattle.auth_decide.specs.Challenges.{continue_item, items_of, nonce_kind}
+use Rattle.auth_decide.specs.Infos.{proof_of, scram_proof_of}
 use Rattle.auth_decide.specs.Stages.{Answer, Question, protection_space, shard_for, stage_at}
 use Rattle.auth_decide.specs.declared.candidate.Candidate.{Candidate}
+use Rattle.auth_decide.specs.declared.challenges.Stale.TheVariants as stale
+use Rattle.auth_decide.specs.declared.scram_exchange.NewExchange.{NewExchange}
+use Rattle.auth_decide.specs.declared.scram_exchange.ScramUser.{ScramUser}
 use Rattle.auth_decide.specs.declared.stages.Purpose.{Purpose}
 use Rattle.auth_decide.specs.declared.stages.Purpose.TheVariants as purpose
 use Rattle.auth_decide.specs.declared.stages.Stage.{Stage}
@@ -20,12 +23,12 @@ use Rattle.auth_decide.specs.declared.stages.Stage.TheVariants as stage
 use Rattle.auth_decide.specs.declared.verdict.Ask.{Ask}
 use Rattle.auth_decide.specs.declared.verdict.Ask.TheVariants.{Draw, Table, Verdict}
 use Rattle.auth_decide.specs.declared.verdict.Verdict.{Verdict as VerdictValue}
-use Rattle.auth_decide.specs.declared.verdict.Verdict.TheVariants.{Admit, Open, Challenge, Bad}
+use Rattle.auth_decide.specs.declared.verdict.Verdict.TheVariants.{Admit, Open, Challenge, Continue, Bad}
 
 -- ---- calls: each has the request's moment and the space's number
 
 abbrev pub issue : ℕ → Space → List ℕ → Call
-issue moment space words = record { moment = moment; what = Issue kind.Digest space.number words }
+issue moment space words = record { moment = moment; what = Issue (nonce_kind space.offers) space.number words }
 
 abbrev pub peek : ℕ → Space → TableName → Call
 peek moment space nonce = record { moment = moment; what = Peek nonce space.number }
@@ -38,15 +41,35 @@ abbrev pub use_of : ℕ → Space → TableName → Candidate → ArrayVec ℕ �
 use_of moment space nonce c prime =
     record { moment = moment; what = Use nonce kind.Digest space.number (nc_number c.credentials.nc) (given_prime c prime) }
 
+-- a new exchange
+abbrev pub open_of : ℕ → Space → NewExchange → List ℕ → Call
+open_of moment space e words = record { moment = moment; what = OpenExchange space.number words e.exchange }
+
+abbrev pub take_of : ℕ → Space → TableName → Call
+take_of moment space sid = record { moment = moment; what = Take sid space.number }
+
+abbrev pub keep_of : ℕ → Space → TableName → Call
+keep_of moment space sid = record { moment = moment; what = Keep sid space.number }
+
+abbrev pub recall_of : ℕ → Space → TableName → Call
+recall_of moment space sid = record { moment = moment; what = Recall sid space.number }
+
+-- a use of an `sr`
+abbrev pub reuse_of : ℕ → Space → TableName → ℕ → Call
+reuse_of moment space sr count = record { moment = moment; what = Use sr kind.Scram space.number count None }
+
 -- ---- verdicts
+
+abbrev pub scram_admission : ScramUser → VerdictValue
+scram_admission user = Admit user.name (scram_proof_of user)
 
 abbrev pub admission : Candidate → ArrayVec ℕ → Option (List ℕ) → VerdictValue
 admission c prime next = Admit c.user (proof_of c prime.items next)
 
 -- what a new nonce of this text is for
 abbrev pub verdict_with : Role → Space → Purpose → List ℕ → VerdictValue
-verdict_with role space purpose.Offer nonce = Open (items_of role space nonce false)
-verdict_with role space (purpose.Challenge stale) nonce = Challenge (items_of role space nonce stale)
+verdict_with role space purpose.Offer nonce = Open (items_of role space nonce stale.Nothing)
+verdict_with role space (purpose.Challenge s) nonce = Challenge (items_of role space nonce s)
 verdict_with role space (purpose.Next c prime) nonce = admission c prime (Some nonce)
 
 -- ---- asks
@@ -60,6 +83,14 @@ ask_at role moment shards space (stage.Issued purpose nonce) = Verdict (verdict_
 ask_at role moment shards space (stage.Peeking c nonce) = Table nonce.shard (peek moment space nonce)
 ask_at role moment shards space (stage.Using c prime nonce) = Table nonce.shard (use_of moment space nonce c prime)
 ask_at role moment shards space (stage.Admitted c prime) = Verdict (admission c prime None)
+ask_at role moment shards space (stage.Beginning e) = Draw
+ask_at role moment shards space (stage.Opening e words) = Table (shard_for shards words) (open_of moment space e words)
+ask_at role moment shards space (stage.Continued e sid) = Verdict (Continue (continue_item e sid))
+ask_at role moment shards space (stage.Taking a) = Table a.sid.shard (take_of moment space a.sid)
+ask_at role moment shards space (stage.Keeping user) = Table user.sid.shard (keep_of moment space user.sid)
+ask_at role moment shards space (stage.Recalling a again) = Table a.sid.shard (recall_of moment space a.sid)
+ask_at role moment shards space (stage.Reusing user sr count) = Table sr.shard (reuse_of moment space sr count)
+ask_at role moment shards space (stage.Authenticated user) = Verdict (scram_admission user)
 ask_at role moment shards space stage.Mismatched = Verdict (Challenge [])
 
 -- Without a space that asks for credentials the request is open.

@@ -14,7 +14,7 @@ use Rattle.digest_fields.specs.declared.kind.Kind.{Kind}
 use Rattle.spaces_map.specs.declared.space.Space.{Space}
 use Rattle.spaces_map.specs.declared.space.Offer.{Offer}
 use Rattle.spaces_map.specs.declared.space.OfferKind.{OfferKind}
-use Rattle.spaces_map.specs.declared.space.OfferKind.TheVariants.{Digest}
+use Rattle.spaces_map.specs.declared.space.OfferKind.TheVariants.{Digest, ScramSha256}
 use Rattle.auth_decide.specs.declared.candidate.Candidate.{Candidate}
 
 -- whether two booleans are one
@@ -25,6 +25,7 @@ same_bool false b = not b
 -- whether an offer is of a kind
 abbrev pub offers_kind : OfferKind → Kind → Bool
 offers_kind (Digest alg session) kind = same_algorithm alg kind.alg && same_bool session kind.session
+offers_kind ScramSha256 kind = false
 
 -- whether an offer has a quality of protection: `auth` always, `auth-int` where it says so
 abbrev pub offers_qop : Offer → Qop → Bool

@@ -1,5 +1,5 @@
 -- The credentials of a request, as the lines of their field say them (RFC 9110 sections 11.4, 11.6.2 and 11.7.2).
-use Rattle.std.specs.Prelude.{◌≡◌, ◌≢◌, ℕ, false, if◌then◌else◌, List, [], ◌∷◌, Option, Some, None, Result, Ok, Err, codes, ⊤}
+use Rattle.std.specs.Prelude.{◌≡◌, ℕ, false, if◌then◌else◌, List, [], ◌∷◌, Result, Ok, Err, codes, ⊤}
 use Rattle.auth_grammar.specs.Names.{has_repeat, params_of, same_name}
 use Rattle.auth_grammar.specs.Answers.{Refuses}
 use Rattle.auth_grammar.specs.Items.{SpellsCredentials}
@@ -11,14 +11,13 @@ use Rattle.auth_grammar.specs.declared.items.Role.{Role}
 use Rattle.auth_grammar.specs.declared.items.Role.TheVariants.{Origin, Proxy}
 use Rattle.http_wire.specs.Fields.{values_of}
 use Rattle.http_wire.specs.declared.request.Request.{Request}
-use Rattle.nonce_shard.specs.Names.{name_text, IsName}
-use Rattle.nonce_shard.specs.declared.names.TableName.{TableName}
 use Rattle.digest_fields.specs.Credentials.{Credentials, credentials_of}
 use Rattle.digest_fields.specs.declared.field.FieldError.{FieldError}
+use Rattle.auth_decide.specs.Messages.{Names, SaysMessage, scram_params, scram_scheme}
 use Rattle.auth_decide.specs.declared.credentials.CredentialsField.{CredentialsField}
 use Rattle.auth_decide.specs.declared.credentials.CredentialsField.TheVariants as field
 use Rattle.auth_decide.specs.declared.credentials.Presented.{Presented}
-use Rattle.auth_decide.specs.declared.credentials.Presented.TheVariants.{Nothing, Malformed, OtherScheme, Digest}
+use Rattle.auth_decide.specs.declared.credentials.Presented.TheVariants.{Nothing, Malformed, OtherScheme, Digest, Scram}
 use Rattle.auth_decide.specs.declared.credentials.RequestCredentials.{RequestCredentials}
 use Rattle.auth_decide.specs.declared.verdict.Why.TheVariants as why
 
@@ -59,11 +58,15 @@ abbrev pub presented_digest : Result Credentials FieldError → Presented
 presented_digest (Ok credentials) = Digest credentials
 presented_digest (Err error) = Malformed why.Field
 
+abbrev pub other_scheme : Item → Presented
+other_scheme item = if same_name item.scheme scram_scheme then Scram else OtherScheme
+
 abbrev pub presented : CredentialsField → Presented
 presented field.Absent = Nothing
 presented field.Malformed = Malformed why.Credentials
 presented (field.Item item) =
-    if same_name item.scheme (codes "Digest") then presented_digest (credentials_of (params_of item.rest)) else OtherScheme
+    if same_name item.scheme (codes "Digest") then presented_digest (credentials_of (params_of item.rest))
+    else other_scheme item
 
 -- the nonce of Digest credentials, and an empty text where there are none
 abbrev pub nonce_in : Presented → List ℕ
@@ -71,13 +74,10 @@ nonce_in (Digest credentials) = credentials.nonce
 nonce_in Nothing = []
 nonce_in (Malformed why) = []
 nonce_in OtherScheme = []
+nonce_in Scram = []
 
--- The text is that of a name of the nonce table, or of none.
-abbrev pub Names : List ℕ → Option TableName → Type 0
-Names text (Some name) = (text ≡ name_text name) × IsName name
-Names text None = (name : TableName) → IsName name → text ≢ name_text name
-
--- what the lines say, and which name of the nonce table the nonce is
+-- what the lines say, which name of the nonce table the nonce is, and what they say in SCRAM-SHA-256
 pub record Reads (lines : List (List ℕ)) (credentials : RequestCredentials) : Type 0 where
   pub field : LinesSay lines credentials.field
   pub nonce : Names (nonce_in (presented credentials.field)) credentials.nonce
+  pub scram : SaysMessage (scram_params credentials.field) credentials.scram

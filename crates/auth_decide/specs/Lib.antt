@@ -1,4 +1,6 @@
 pub mod Paths
+pub mod Messages
+pub mod Exchanges
 pub mod Credentials
 pub mod Candidates
 pub mod Responses

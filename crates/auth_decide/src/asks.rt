@@ -3,12 +3,13 @@ ghost use Rattle.std.specs.Prelude.{◌≡◌, ◌<◌, [], IfOk, true};
 ghost use Rattle.auth_grammar.specs.Plain.{is_plain_name};
 ghost use Rattle.nonce_shard.specs.Replies.{Fits};
 ghost use Rattle.nonce_shard.specs.Names.{name_text};
-ghost use Rattle.auth_decide.specs.Asks.{issue, peek, given_prime, use_of, admission, verdict_with, ask_at};
+ghost use Rattle.auth_decide.specs.Asks.{issue, peek, given_prime, use_of, open_of, take_of, keep_of, recall_of, reuse_of, scram_admission, admission, verdict_with, ask_at};
 ghost use Rattle.auth_decide.specs.Decisions.{AsksWithin, FitsTable};
 
 use crate::candidate::{Candidate, prime_of};
-use crate::challenges::items_of;
-use crate::info::proof_of;
+use crate::challenges::{Stale, continue_item, items_of, nonce_kind};
+use crate::info::{proof_of, scram_proof_of};
+use crate::scram_exchange::{NewExchange, ScramUser, exchange_copy};
 use crate::stages::{Purpose, Stage};
 use crate::verdict::{Ask, Verdict};
 use auth_grammar::{ItemList, OutOfMemory, Role};
@@ -22,7 +23,7 @@ fn issue(moment: u64, space: &Space, words: [u8; 16]) -> Call
     Call {
         moment,
         what: What::Issue {
-            kind: NonceKind::Digest,
+            kind: nonce_kind(space.offers.as_slice()),
             space: space.number,
             random: words,
         },
@@ -74,6 +75,81 @@ fn use_of(
     }
 }
 
+fn open_of(moment: u64, space: &Space, new: &NewExchange, words: [u8; 16]) -> Call
+    ensures { result ≡ open_of moment space.now new.now words }
+{
+    Call {
+        moment,
+        what: What::Open {
+            space: space.number,
+            random: words,
+            exchange: exchange_copy(&new.exchange),
+        },
+    }
+}
+
+fn take_of(moment: u64, space: &Space, sid: TableName) -> Call
+    ensures { result ≡ take_of moment space.now sid }
+{
+    Call {
+        moment,
+        what: What::Take {
+            sid,
+            space: space.number,
+        },
+    }
+}
+
+fn keep_of(moment: u64, space: &Space, sid: TableName) -> Call
+    ensures { result ≡ keep_of moment space.now sid }
+{
+    Call {
+        moment,
+        what: What::Keep {
+            sid,
+            space: space.number,
+        },
+    }
+}
+
+fn recall_of(moment: u64, space: &Space, sid: TableName) -> Call
+    ensures { result ≡ recall_of moment space.now sid }
+{
+    Call {
+        moment,
+        what: What::Recall {
+            sid,
+            space: space.number,
+        },
+    }
+}
+
+fn reuse_of(moment: u64, space: &Space, sr: TableName, count: u32) -> Call
+    requires { 0 < count }
+    ensures call { result ≡ reuse_of moment space.now sr count }
+    ensures fits { Fits result.what }
+{
+    Call {
+        moment,
+        what: What::Use {
+            nonce: sr,
+            kind: NonceKind::Scram,
+            space: space.number,
+            count,
+            prime: None,
+        },
+    }
+}
+
+fn scram_admission(user: &ScramUser) -> Result<Verdict, OutOfMemory>
+    ensures { IfOk result (λ verdict. verdict ≡ scram_admission user.now) }
+{
+    Ok(Verdict::Admit {
+        user: user.name.copy()?,
+        proof: scram_proof_of(user),
+    })
+}
+
 fn admission(
     candidate: &Candidate,
     prime: &Prime,
@@ -101,7 +177,7 @@ fn verdict_with(
     let text = nonce.text();
     match purpose {
         Purpose::Offer => Ok(Verdict::Open {
-            items: items_of(alloc, role, space, &text, false)?,
+            items: items_of(alloc, role, space, &text, Stale::Nothing)?,
         }),
         Purpose::Challenge { stale } => Ok(Verdict::Challenge {
             items: items_of(alloc, role, space, &text, *stale)?,
@@ -145,6 +221,31 @@ pub(crate) fn ask_at(
             call: use_of(moment, space, *nonce, candidate, prime),
         }),
         Stage::Admitted(candidate, prime) => Ok(Ask::Verdict(admission(candidate, prime, None)?)),
+        Stage::Beginning(_) => Ok(Ask::Draw),
+        Stage::Opening(new, words) => Ok(Ask::Table {
+            shard: u16::from(words[0]) % shards,
+            call: open_of(moment, space, new, *words),
+        }),
+        Stage::Continued(new, sid) => Ok(Ask::Verdict(Verdict::Continue {
+            item: continue_item(alloc, new, sid)?,
+        })),
+        Stage::Taking(attempt) => Ok(Ask::Table {
+            shard: attempt.sid.shard,
+            call: take_of(moment, space, attempt.sid),
+        }),
+        Stage::Keeping(user) => Ok(Ask::Table {
+            shard: user.sid.shard,
+            call: keep_of(moment, space, user.sid),
+        }),
+        Stage::Recalling(attempt, _) => Ok(Ask::Table {
+            shard: attempt.sid.shard,
+            call: recall_of(moment, space, attempt.sid),
+        }),
+        Stage::Reusing(_, sr, count) => Ok(Ask::Table {
+            shard: sr.shard,
+            call: reuse_of(moment, space, *sr, *count),
+        }),
+        Stage::Authenticated(user) => Ok(Ask::Verdict(scram_admission(user)?)),
         Stage::Mismatched => Ok(Ask::Verdict(Verdict::Challenge {
             items: ItemList::new(alloc),
         })),

@@ -67,6 +67,7 @@ fn offers_kind(offer: OfferKind, kind: Kind) -> bool
 {
     match offer {
         OfferKind::Digest { alg, session } => alg.is(kind.alg) && same_bool(session, kind.session),
+        OfferKind::ScramSha256 => false,
     }
 }
 

@@ -1,7 +1,9 @@
 //! The credentials of a request, as the lines of their field say them.
 ghost use Rattle.std.specs.Prelude.{◌≡◌, IfOk};
-ghost use Rattle.auth_decide.specs.Credentials.{LinesSay, Names, Reads, credentials_field, credentials_lines, nonce_in, presented};
+ghost use Rattle.auth_decide.specs.Credentials.{LinesSay, Reads, credentials_field, credentials_lines, nonce_in, other_scheme, presented};
 
+use crate::scram_message::ScramMessage;
+use crate::scram_reading::{SCRAM_SCHEME, message_in, name_of};
 use crate::verdict::Why;
 use auth_grammar::{
     GrammarError, Item, OctetsList, OutOfMemory, Role, read_credentials, same_name,
@@ -40,6 +42,8 @@ pub struct RequestCredentials {
     pub field: CredentialsField,
     /// The name of the nonce table that the nonce of Digest credentials is, if it is one.
     pub nonce: Option<TableName>,
+    /// What it says in SCRAM-SHA-256.
+    pub scram: ScramMessage,
 }
 
 impl fmt::Debug for RequestCredentials {
@@ -47,6 +51,7 @@ impl fmt::Debug for RequestCredentials {
         f.debug_struct("RequestCredentials")
             .field("field", &self.field)
             .field("nonce", &self.nonce)
+            .field("scram", &self.scram)
             .finish()
     }
 }
@@ -58,10 +63,12 @@ pub enum Presented {
     Nothing,
     /// Credentials out of form.
     Malformed(Why),
-    /// Credentials of another scheme than Digest.
+    /// Credentials of a scheme that is neither Digest nor SCRAM-SHA-256.
     OtherScheme,
     /// Credentials of Digest whose parameters are accepted.
     Digest(DigestCredentials),
+    /// Credentials of SCRAM-SHA-256.
+    Scram,
 }
 
 impl fmt::Debug for Presented {
@@ -71,6 +78,7 @@ impl fmt::Debug for Presented {
             Presented::Malformed(_) => "Malformed(...)",
             Presented::OtherScheme => "OtherScheme",
             Presented::Digest(_) => "Digest(...)",
+            Presented::Scram => "Scram",
         })
     }
 }
@@ -110,12 +118,23 @@ fn presented_by(alloc: Global, field: &CredentialsField) -> Result<Presented, Ou
         CredentialsField::Item(item) => item,
     };
     if !same_name(item.scheme.bytes(), b"Digest") {
-        return Ok(Presented::OtherScheme);
+        return Ok(other_scheme(item));
     }
     match DigestCredentials::from_item(alloc, item) {
         Ok(credentials) => Ok(Presented::Digest(credentials)),
         Err(FieldError::OutOfMemory) => Err(OutOfMemory),
         Err(_) => Ok(Presented::Malformed(Why::Field)),
+    }
+}
+
+/// What credentials of another scheme than Digest are.
+fn other_scheme(item: &Item) -> Presented
+    ensures { result ≡ other_scheme item.now }
+{
+    if same_name(item.scheme.bytes(), SCRAM_SCHEME) {
+        Presented::Scram
+    } else {
+        Presented::OtherScheme
     }
 }
 
@@ -129,13 +148,6 @@ fn nonce_in(presented: &Presented) -> &[u8]
     }
 }
 
-/// The name of the nonce table that the text is, if it is one.
-fn name_of(text: &[u8]) -> Option<TableName>
-    ensures { Names text.now result }
-{
-    TableName::read(text)
-}
-
 /// The credentials that the lines of the field say, and what they present.
 fn read_lines(
     alloc: Global,
@@ -147,7 +159,15 @@ fn read_lines(
     let field = field_of(alloc, lines)?;
     let presented = presented_by(alloc, &field)?;
     let nonce = name_of(nonce_in(&presented));
-    Ok((RequestCredentials { field, nonce }, presented))
+    let scram = message_in(alloc, &field)?;
+    Ok((
+        RequestCredentials {
+            field,
+            nonce,
+            scram,
+        },
+        presented,
+    ))
 }
 
 /// The credentials of a request for a role, and what they present.

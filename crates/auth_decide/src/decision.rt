@@ -1,5 +1,5 @@
 //! The decision for one request.
-ghost use Rattle.std.specs.Prelude.{◌≡◌, ◌<◌, ◌≤◌, IfOk, IfSome, true, option_copied};
+ghost use Rattle.std.specs.Prelude.{◌≡◌, ◌<◌, ◌≤◌, IfOk, IfSome, OnErr, OnOk, true, option_copied};
 ghost use Rattle.auth_grammar.specs.Plain.{is_plain_name};
 ghost use Rattle.auth_decide.specs.Credentials.{Reads, credentials_lines};
 ghost use Rattle.auth_decide.specs.Stages.{Replied, Words, first_stage, protection_space, stage_after};
@@ -8,7 +8,7 @@ use crate::asks::{ask_at, open};
 use crate::credentials::{RequestCredentials, read_request};
 use crate::paths::path_of;
 use crate::site::Site;
-use crate::stages::{Stage, first_stage, name_within, put, stage_after_reply, stage_after_words};
+use crate::stages::{Stage, first_stage, put, stage_after_reply, stage_after_words};
 use crate::verdict::Ask;
 use auth_grammar::{OutOfMemory, Role};
 use http_wire::Request;
@@ -29,7 +29,7 @@ use std::{fmt, mem};
 /// loop {
 ///     match decision.next(alloc)? {
 ///         Ask::Draw => decision.answer_words(&random.draw()?),
-///         Ask::Table { shard, call } => decision.answer(&seat.call(shard, &call)?),
+///         Ask::Table { shard, call } => decision.answer(alloc, &seat.call(shard, &call)?)?,
 ///         Ask::Verdict(verdict) => return Ok(verdict),
 ///     }
 /// }
@@ -123,9 +123,8 @@ impl<'a> Decision<'a> {
         ensures few { IfOk result (λ d. asks_left d.stage ≤ 4) }
     {
         let (credentials, presented) = read_request(alloc, role, request)?;
-        let nonce = name_within(shards, credentials.nonce);
         let space = protection_space(role, request, site);
-        let stage = first_stage(request, nonce, space, &site.store, presented)?;
+        let stage = first_stage(request, shards, &credentials, space, &site.store, presented)?;
         Ok(Decision {
             role,
             request,
@@ -166,15 +165,19 @@ impl<'a> Decision<'a> {
         put(&mut self.stage, stage_after_words(stage, *words));
     }
 
-    /// Hands in the reply to the call that was asked for.
-    pub fn answer(&mut self, reply: &Reply)
+    /// Hands in the reply to the call that was asked for. Where there is no memory to check a proof, the decision admits
+    /// nobody from then on.
+    pub fn answer(&mut self, alloc: Global, reply: &Reply) -> Result<(), OutOfMemory>
         requires { IsCallFor reply.now (ask_of self.old) }
-        ensures stage { self.new ≡ record self.old { stage = stage_after self.old.question self.old.stage (Replied reply.now) } }
-        ensures fewer { asks_left self.new.stage < asks_left self.old.stage }
+        ensures stage { OnOk result (self.new ≡ record self.old { stage = stage_after self.old.question self.old.stage (Replied reply.now) }) }
+        ensures fewer { OnOk result (asks_left self.new.stage < asks_left self.old.stage) }
+        ensures spent { OnErr result (self.new ≡ record self.old { stage = Stage.Mismatched }) }
     {
         let stage = mem::replace(&mut self.stage, Stage::Mismatched);
-        let next = stage_after_reply(self.request, self.shards, stage, reply);
+        let store = &self.site.store;
+        let next = stage_after_reply(alloc, self.request, store, self.shards, stage, reply)?;
         put(&mut self.stage, next);
+        Ok(())
     }
 }
 

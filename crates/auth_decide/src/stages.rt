@@ -2,12 +2,19 @@
 ghost use Rattle.std.specs.Prelude.{◌≡◌, ◌<◌, IfOk, option_copied};
 ghost use Rattle.std.specs.Option.{option_map_or};
 ghost use Rattle.auth_decide.specs.Decisions.{Calls, Draws};
-ghost use Rattle.auth_decide.specs.Stages.{right_stage, response_stage, name_within, candidate_stage, taken_stage, digest_stage, mode_stage, presented_stage, stage_after_words, stage_after_issue, stage_after_peek, admitted_stage, stage_after_use, stage_after_reply};
+ghost use Rattle.auth_decide.specs.Stages.{challenge_stage, right_stage, response_stage, name_within, candidate_stage, taken_stage, digest_stage, mode_stage, presented_stage, stage_after_words, stage_after_issue, stage_after_peek, admitted_stage, stage_after_use, stage_after_reply};
 
 use crate::candidate::{Candidate, candidate_of, prime_of};
-use crate::credentials::Presented;
+use crate::challenges::Stale;
+use crate::credentials::{Presented, RequestCredentials};
 use crate::paths::correspond;
 use crate::response::is_right;
+use crate::scram_exchange::{Attempt, NewExchange, ScramUser};
+use crate::scram_message::Again;
+use crate::scram_stages::{
+    scram_stage, stage_after_keep, stage_after_open, stage_after_recall, stage_after_reuse,
+    stage_after_take,
+};
 use crate::verdict::Why;
 use auth_grammar::OutOfMemory;
 use cred_store::Store;
@@ -15,6 +22,7 @@ use digest_fields::DigestCredentials;
 use http_wire::Request;
 use nonce_shard::{NameKind, Prime, Reply, TableName};
 use spaces_map::{Mode, Space};
+use std::alloc::Global;
 use std::{fmt, mem};
 
 /// From so many admitted uses of a nonce on, the next nonce is offered.
@@ -26,7 +34,7 @@ pub enum Purpose {
     /// It is offered beside an answer that needs no user.
     Offer,
     /// It stands in a challenge, which says whether the nonce before it was stale.
-    Challenge { stale: bool },
+    Challenge { stale: Stale },
     /// It is the one to use next, after these credentials were admitted. The prime counts for a session alone.
     Next(Candidate, Prime),
 }
@@ -60,6 +68,22 @@ pub enum Stage {
     Using(Candidate, Prime, TableName),
     /// The count was new.
     Admitted(Candidate, Prime),
+    /// Random words are drawn for a new exchange.
+    Beginning(NewExchange),
+    /// The exchange of these words is opened.
+    Opening(NewExchange, [u8; 16]),
+    /// The exchange of this name is open.
+    Continued(NewExchange, TableName),
+    /// The one try of an exchange is taken.
+    Taking(Attempt),
+    /// This user has proved itself, and the exchange is finished.
+    Keeping(ScramUser),
+    /// A finished exchange is looked up, to be used again.
+    Recalling(Attempt, Again),
+    /// This user has proved itself again, and the count of the `sr` is used.
+    Reusing(ScramUser, TableName, u32),
+    /// This user is admitted.
+    Authenticated(ScramUser),
     /// An answer was of another kind than was asked for. A caller that keeps the conditions never comes here.
     Mismatched,
 }
@@ -75,15 +99,24 @@ impl fmt::Debug for Stage {
             Stage::Peeking(..) => "Peeking(...)",
             Stage::Using(..) => "Using(...)",
             Stage::Admitted(..) => "Admitted(...)",
+            Stage::Beginning(_) => "Beginning(...)",
+            Stage::Opening(..) => "Opening(...)",
+            Stage::Continued(..) => "Continued(...)",
+            Stage::Taking(_) => "Taking(...)",
+            Stage::Keeping(_) => "Keeping(...)",
+            Stage::Recalling(..) => "Recalling(...)",
+            Stage::Reusing(..) => "Reusing(...)",
+            Stage::Authenticated(_) => "Authenticated(...)",
             Stage::Mismatched => "Mismatched",
         })
     }
 }
 
 /// A new nonce is drawn for a challenge.
-fn challenge_stage(stale: bool) -> Stage
-    ensures { result ≡ Stage.Drawing (Purpose.Challenge stale) }
+pub(crate) fn challenge_stage(stale: bool) -> Stage
+    ensures { result ≡ challenge_stage stale }
 {
+    let stale = if stale { Stale::Digest } else { Stale::Nothing };
     Stage::Drawing(Purpose::Challenge { stale })
 }
 
@@ -160,47 +193,54 @@ fn mode_stage(mode: Mode) -> Stage
 /// The first stage in a space that asks for credentials.
 fn presented_stage(
     request: &Request,
-    nonce: Option<TableName>,
+    shards: u16,
+    credentials: &RequestCredentials,
     space: &Space,
     store: &Store,
     presented: Presented,
 ) -> Result<Stage, OutOfMemory>
-    ensures { IfOk result (λ stage. stage ≡ presented_stage request.now nonce space.now store.now presented) }
+    ensures { IfOk result (λ stage. stage ≡ presented_stage request.now shards credentials.now space.now store.now presented) }
 {
     match presented {
         Presented::Nothing => Ok(mode_stage(space.mode)),
         Presented::Malformed(why) => Ok(Stage::Bad(why)),
         Presented::OtherScheme => Ok(challenge_stage(false)),
-        Presented::Digest(credentials) => digest_stage(request, nonce, space, store, credentials),
+        Presented::Digest(digest) => {
+            let nonce = name_within(shards, credentials.nonce);
+            digest_stage(request, nonce, space, store, digest)
+        }
+        Presented::Scram => scram_stage(shards, space, store, &credentials.scram),
     }
 }
 
 /// The first stage, in the space that asks for credentials, if there is one.
 pub(crate) fn first_stage(
     request: &Request,
-    nonce: Option<TableName>,
+    shards: u16,
+    credentials: &RequestCredentials,
     space: Option<&Space>,
     store: &Store,
     presented: Presented,
 ) -> Result<Stage, OutOfMemory>
     ensures { IfOk result (λ stage. stage
-        ≡ option_map_or (λ space. presented_stage request.now nonce space store.now presented) (option_copied space.entry) Stage.Open) }
+        ≡ option_map_or (λ space. presented_stage request.now shards credentials.now space store.now presented) (option_copied space.entry) Stage.Open) }
 {
     match space {
         None => Ok(Stage::Open),
-        Some(space) => presented_stage(request, nonce, space, store, presented),
+        Some(space) => presented_stage(request, shards, credentials, space, store, presented),
     }
 }
 
-/// Random words are those of the nonce that is issued.
+/// Random words are those of the nonce that is issued, or of the exchange that is opened.
 pub(crate) fn stage_after_words(stage: Stage, words: [u8; 16]) -> Stage
     requires { Draws stage }
     ensures { result ≡ stage_after_words stage words }
 {
-    let Stage::Drawing(purpose) = stage else {
-        unreachable!()
-    };
-    Stage::Issuing(purpose, words)
+    match stage {
+        Stage::Drawing(purpose) => Stage::Issuing(purpose, words),
+        Stage::Beginning(new) => Stage::Opening(new, words),
+        _ => unreachable!(),
+    }
 }
 
 /// The nonce was issued. The first of its random bytes has chosen the shard.
@@ -266,19 +306,28 @@ fn stage_after_use(candidate: Candidate, prime: Prime, reply: &Reply) -> Stage
 
 /// The call of a stage had this reply.
 pub(crate) fn stage_after_reply(
+    alloc: Global,
     request: &Request,
+    store: &Store,
     shards: u16,
     stage: Stage,
     reply: &Reply,
-) -> Stage
+) -> Result<Stage, OutOfMemory>
     requires some { 0 < shards }
     requires calls { Calls stage }
-    ensures { result ≡ stage_after_reply request.now shards stage reply.now }
+    ensures { IfOk result (λ next. next ≡ stage_after_reply request.now store.now shards stage reply.now) }
 {
     match stage {
-        Stage::Issuing(purpose, words) => stage_after_issue(shards, purpose, words, reply),
-        Stage::Peeking(candidate, nonce) => stage_after_peek(request, candidate, nonce, reply),
-        Stage::Using(candidate, prime, _) => stage_after_use(candidate, prime, reply),
+        Stage::Issuing(purpose, words) => Ok(stage_after_issue(shards, purpose, words, reply)),
+        Stage::Peeking(candidate, nonce) => Ok(stage_after_peek(request, candidate, nonce, reply)),
+        Stage::Using(candidate, prime, _) => Ok(stage_after_use(candidate, prime, reply)),
+        Stage::Opening(new, words) => Ok(stage_after_open(shards, new, words, reply)),
+        Stage::Taking(attempt) => stage_after_take(alloc, store, &attempt, reply),
+        Stage::Keeping(user) => Ok(stage_after_keep(user, reply)),
+        Stage::Recalling(attempt, again) => stage_after_recall(
+            alloc, store, &attempt, again, reply,
+        ),
+        Stage::Reusing(user, _, _) => Ok(stage_after_reuse(user, reply)),
         _ => unreachable!(),
     }
 }

@@ -6,6 +6,7 @@ use Rattle.std.proofs.lemmas.List.Elements.{All-head, All-tail}
 use Rattle.std.proofs.lemmas.List.Sums.{sum_by-cons}
 use Rattle.admission.proofs.Exact.{exactly}
 use Rattle.admission.proofs.NoOther.{no_other}
+use Rattle.admission.proofs.ScramRequests.{again, by_try}
 use Rattle.admission.specs.Places.{AreInPlace}
 use Rattle.admission.specs.Steps.{Step}
 use Rattle.auth_decide.specs.Credentials.{Reads, credentials_lines}
@@ -110,6 +111,8 @@ answered seat seen new s incoming used response now more places walk sound stand
         file = d.carried;
         answered = d.replies;
         exactly = λ space c well. exactly seat.sizes q space c well reads d.steps all d.verdict d.ends;
+        by_try = by_try seat.sizes q reads d.steps all d.verdict d.ends;
+        again = again seat.sizes q reads d.steps all d.verdict d.ends;
         no_other = λ user a. no_other seat.sizes q reads d.steps all d.verdict d.ends user a;
       };
       same_server = d.same_server;

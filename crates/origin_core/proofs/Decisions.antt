@@ -177,6 +177,13 @@ goes_verdict before now s incoming d verdict g is = record {
 pub goes_no_memory : (before now : TableState) (s : Server) (incoming : Incoming) (d : Deciding) → IsUnderWay before now s incoming d → Decides before now s incoming (Err OutOfMemory)
 goes_no_memory before now s incoming d g = record { events = g.events; sound = g.sound; passed = g.passed; no_files = no_files g; ends = at_no_memory origin s incoming g.events (stands g.has) }
 
+-- the call was answered, and then there was no memory
+pub goes_spent : (before now : TableState) (seat : Seat) (s : Server) (incoming : Incoming) (d : Deciding) (shard : ℕ) (call : Call) (reply : Reply) → IsUnderWay before now s incoming d → ask.Table shard call ≡ ask_of d →
+    shard < now.seat.shards → Grows now.seat seat (made shard call reply ∷ []) → Decides before (record now { seat = seat }) s incoming (Err OutOfMemory)
+goes_spent before now seat s incoming d shard call reply g asks inside grows =
+    let then : Deciding = record d { stage = stage_after d.question d.stage (Replied reply) } in
+    goes_no_memory before (record now { seat = seat }) s incoming then (goes_called before now seat s incoming d then shard call reply g asks inside grows refl)
+
 pub start_no_memory : (table : TableState) (s : Server) (incoming : Incoming) → Decides table table s incoming (Err OutOfMemory)
 start_no_memory table s incoming = record {
   events = [];

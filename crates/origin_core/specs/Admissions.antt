@@ -1,7 +1,9 @@
 -- Who is admitted on a connection. Nothing here speaks of how a request is decided.
 use Rattle.std.specs.Prelude.{◌≡◌, ◌↔◌, ◌⊎◌, Bool, ℕ, List, [], ◌∷◌, ◌++◌, length, map, sum_by, Option, Some, Result, IfOk}
 use Rattle.std.specs.List.{flat_map}
-use Rattle.admission.specs.Admission.{Admits, AreValid, IsAdmitted, IsWellFormed}
+use Rattle.admission.specs.Admission.{AreValid, IsAdmitted, IsWellFormed}
+use Rattle.admission.specs.Exchanges.{ReusesRightly, TriesRightly}
+use Rattle.admission.specs.Outcomes.{Admits}
 use Rattle.admission.specs.Places.{AreInPlace}
 use Rattle.admission.specs.Steps.{Step, Drew as DrewStep, Called as CalledStep}
 use Rattle.auth_decide.specs.Credentials.{credentials_lines}
@@ -51,13 +53,17 @@ abbrev pub events_of : Sizes → ServedRequest → List Event
 events_of sizes r =
     CredentialsRead (credentials_lines Origin r.incoming.request) r.credentials ∷ (map (event_of sizes) r.steps ++ r.file)
 
--- The response is that of the verdict, with the file that it calls for. A well-formed request is admitted, as its user, exactly
--- where its credentials are valid, and no other is, nor one without a use of its count that the table answered Fresh.
+-- The response is that of the verdict, with the file that it calls for. A well-formed request of Digest is admitted, as its user,
+-- exactly where its credentials are valid, and one that ends an exchange of SCRAM-SHA-256 or uses a finished one again exactly
+-- where it proves its user. No other is, nor one of Digest without a use of its count that the table answered Fresh, nor one of
+-- SCRAM-SHA-256 without its try and a keeping, or a recall and such a use.
 pub record IsRightlyAnswered (sizes : Sizes) (s : Server) (r : ServedRequest) : Type 0 where
   pub file : IsCarriedOut r.incoming (plan_of s.site.root r.incoming.request r.verdict) r.file
   pub answered : plan_reply r.incoming r.verdict (plan_of s.site.root r.incoming.request r.verdict) r.file ≡ Some r.response
   pub exactly : (space : Space) (c : Candidate) → IsWellFormed (question_of s r.incoming r.credentials) space c
       → Admits c.user r.verdict ↔ AreValid sizes (question_of s r.incoming r.credentials) space c r.steps
+  pub by_try : TriesRightly sizes (question_of s r.incoming r.credentials) r.steps r.verdict
+  pub again : ReusesRightly sizes (question_of s r.incoming r.credentials) r.steps r.verdict
   pub no_other : (user : List ℕ) → Admits user r.verdict → IsAdmitted sizes (question_of s r.incoming r.credentials) user r.steps
 
 -- ---- one after the other

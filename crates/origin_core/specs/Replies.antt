@@ -1,4 +1,5 @@
--- The reply to a request, by its verdict and what its file gave (RFC 9110 sections 9.3, 11.6 and 15).
+-- The reply to a request, by its verdict and what its file gave (RFC 9110 sections 9.3, 11.6 and 15,
+-- RFC 7804 section 5).
 use Rattle.std.specs.Prelude.{ℕ, Bool, true, false, ◌==◌, bytes_eq, if◌then◌else◌, List, [], ◌∷◌, ◌++◌, Option, Some, None, map, codes}
 use Rattle.auth_grammar.specs.Writing.{items_text, params_text}
 use Rattle.auth_grammar.specs.declared.items.Item.{Item}
@@ -7,7 +8,7 @@ use Rattle.auth_decide.specs.Infos.{info_of}
 use Rattle.auth_decide.specs.Paths.{path_of}
 use Rattle.auth_decide.specs.declared.info.Proof.{Proof}
 use Rattle.auth_decide.specs.declared.verdict.Verdict.{Verdict}
-use Rattle.auth_decide.specs.declared.verdict.Verdict.TheVariants.{Admit, Open, Challenge, Bad}
+use Rattle.auth_decide.specs.declared.verdict.Verdict.TheVariants.{Admit, Open, Challenge, Continue, Bad}
 use Rattle.auth_io.specs.declared.files.FileAnswer.{FileAnswer}
 use Rattle.auth_io.specs.declared.files.FileAnswer.TheVariants.{Found, Absent, TooLarge, Failed, OutOfMemory}
 use Rattle.auth_io.specs.declared.files.Replaced.{Replaced}
@@ -57,6 +58,7 @@ abbrev pub verdict_lines : Verdict → List ℕ → List Pair
 verdict_lines (Admit user proof) body = info_line proof body ∷ []
 verdict_lines (Open items) body = map (item_line (codes "Optional-WWW-Authenticate")) items
 verdict_lines (Challenge items) body = map (item_line (codes "WWW-Authenticate")) items
+verdict_lines (Continue item) body = item_line (codes "WWW-Authenticate") item ∷ []
 verdict_lines (Bad why) body = []
 
 abbrev pub allow_line : Pair
@@ -74,6 +76,7 @@ abbrev pub is_admitted : Verdict → Bool
 is_admitted (Admit user proof) = true
 is_admitted (Open items) = false
 is_admitted (Challenge items) = false
+is_admitted (Continue item) = false
 is_admitted (Bad why) = false
 
 -- ---- replies
@@ -150,5 +153,6 @@ open_plan root request Other = Refuse NotAllowed
 abbrev pub plan_of : List ℕ → Request → Verdict → Plan
 plan_of root request (Bad why) = Refuse BadForm
 plan_of root request (Challenge items) = Refuse Challenged
+plan_of root request (Continue item) = Refuse Challenged
 plan_of root request (Open items) = open_plan root request (method_of request.method)
 plan_of root request (Admit user proof) = file_plan root request (method_of request.method)

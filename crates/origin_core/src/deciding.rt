@@ -67,7 +67,11 @@ fn run<W: Words, T: TableSeat>(
                 decision.answer_words(&words);
             }
             Ok(Ask::Table { shard, call }) => match seat.call(shard, &call) {
-                Ok(reply) => decision.answer(&reply),
+                Ok(reply) => {
+                    let Ok(()) = decision.answer(alloc, &reply) else {
+                        return Err(RespondError::OutOfMemory);
+                    };
+                }
                 Err(worn) => {
                     return Err(RespondError::Lacking(Lack::Worn { calls: worn.calls }));
                 }

@@ -14,7 +14,7 @@ use std::alloc::Global;
 pub(crate) enum Refusal {
     /// Its credentials are out of form.
     Bad,
-    /// It is challenged.
+    /// It is challenged, or its exchange goes on.
     Challenged,
     /// A file is replaced only for a user.
     Forbidden,
@@ -112,7 +112,9 @@ pub(crate) fn plan_of(
     let method = Method::of(request.method.bytes());
     match verdict {
         Verdict::Bad { .. } => Ok(Plan::Refuse(Refusal::Bad)),
-        Verdict::Challenge { .. } => Ok(Plan::Refuse(Refusal::Challenged)),
+        Verdict::Challenge { .. } | Verdict::Continue { .. } => {
+            Ok(Plan::Refuse(Refusal::Challenged))
+        }
         Verdict::Open { .. } => open_plan(alloc, root, request, method),
         Verdict::Admit { .. } => file_plan(alloc, root, request, method),
     }

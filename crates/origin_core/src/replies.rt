@@ -36,6 +36,13 @@ fn put_items(
     Ok(())
 }
 
+fn put_item(alloc: Global, lines: &mut PairList, name: &[u8], item: Item) -> Result<(), OutOfMemory>
+    ensures { OnOk result (lines.new ≡ lines.old ++ item_line name.now item ∷ []) }
+{
+    lines.push(item_line(alloc, name, item)?)?;
+    Ok(())
+}
+
 /// What the server proves over a body that it sends.
 fn info_line(alloc: Global, proof: &Proof, body: &[u8]) -> Result<Pair, OutOfMemory>
     ensures { IfOk result (λ made. made ≡ info_line proof.now body.now) }
@@ -71,6 +78,7 @@ fn put_verdict(
         Verdict::Admit { proof, .. } => put_info(alloc, lines, &proof, body),
         Verdict::Open { items } => put_items(alloc, lines, b"Optional-WWW-Authenticate", items),
         Verdict::Challenge { items } => put_items(alloc, lines, b"WWW-Authenticate", items),
+        Verdict::Continue { item } => put_item(alloc, lines, b"WWW-Authenticate", item),
         Verdict::Bad { .. } => Ok(()),
     }
 }

@@ -1,6 +1,7 @@
 //! Credentials of the standards, whose `response` is that of the password.
 mod decisions;
 mod exchanges;
+mod messages;
 mod targets;
 
 use auth_grammar::{Octets, OctetsList, read_challenges, read_credentials};

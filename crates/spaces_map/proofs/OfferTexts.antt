@@ -10,11 +10,11 @@ use Rattle.auth_hash.specs.declared.algorithm.Algorithm.{Algorithm}
 use Rattle.auth_hash.specs.declared.algorithm.Algorithm.TheVariants.{Md5, Sha256, Sha512t256}
 use Rattle.spaces_map.specs.Follows.{EachFits}
 use Rattle.auth_hash.specs.Algorithm.{algorithm_name}
-use Rattle.spaces_map.specs.Kinds.{flag_text, kind_name, offer_text, kinds_text, has_kind, IsOther, IsOffers}
+use Rattle.spaces_map.specs.Kinds.{flag_text, kind_name, offer_text, kinds_text, IsOther, IsOffers}
 use Rattle.spaces_map.specs.Lines.{is_visible}
 use Rattle.spaces_map.specs.declared.space.Offer.{Offer}
 use Rattle.spaces_map.specs.declared.space.OfferKind.{OfferKind}
-use Rattle.spaces_map.specs.declared.space.OfferKind.TheVariants.{Digest}
+use Rattle.spaces_map.specs.declared.space.OfferKind.TheVariants.{Digest, ScramSha256}
 use Rattle.spaces_map.proofs.Cuts.{Lacks, lacks_by, lacks_append, lacks_cons, all_append, neither_first, neither_second}
 use Rattle.spaces_map.proofs.Flags.{last_of, last_append, ends_otherwise, flag_is, flag_cut}
 use Rattle.spaces_map.proofs.Follows.{fits_at}
@@ -35,6 +35,7 @@ kind_end (Digest Sha256 true) = (refl, refl)
 kind_end (Digest Sha256 false) = (refl, refl)
 kind_end (Digest Sha512t256 true) = (refl, refl)
 kind_end (Digest Sha512t256 false) = (refl, refl)
+kind_end ScramSha256 = (refl, refl)
 
 kind_plain : (kind : OfferKind) (front : List ℕ) → kind_name kind ≢ front ++ codes "+int"
 kind_plain kind = ends_otherwise _ _ (kind_name kind) (kind_end kind).0
@@ -48,9 +49,10 @@ int_plain kind auth_int = ends_otherwise _ _ (kind_name kind ++ flag_text (codes
 
 -- ---- reading
 
-pub no_kind : (name rest : List ℕ) (session : Bool) → name ≡ rest ++ flag_text (codes "-sess") session →
+pub no_kind : (name rest : List ℕ) (session : Bool) → name ≢ codes "SCRAM-SHA-256" → name ≡ rest ++ flag_text (codes "-sess") session →
     (session ≡ false → (front : List ℕ) → name ≢ front ++ codes "-sess") → ((alg : Algorithm) → rest ≢ algorithm_name alg) → (kind : OfferKind) → name ≢ kind_name kind
-no_kind name rest session text absent none (Digest alg other) is =
+no_kind name rest session other_scheme text absent none ScramSha256 is = other_scheme is
+no_kind name rest session other_scheme text absent none (Digest alg other) is =
     none alg (flag_is (codes "-sess") name (algorithm_name alg) rest session other (algorithm_plain alg) absent text is).1
 
 pub no_offer : (part rest name : List ℕ) (userhash auth_int : Bool) → part ≡ rest ++ flag_text (codes "+hash") userhash →
@@ -71,7 +73,19 @@ algorithm_back Md5 = refl
 algorithm_back Sha256 = refl
 algorithm_back Sha512t256 = refl
 
+-- no name of Digest is as long as that of SCRAM
+other_scheme : (alg : Algorithm) (session : Bool) → kind_name (Digest alg session) ≢ kind_name ScramSha256
+other_scheme Md5 true is = absurd (let no = ap (λ (l : List ℕ). length l) is in omega (arith, no))
+other_scheme Md5 false is = absurd (let no = ap (λ (l : List ℕ). length l) is in omega (arith, no))
+other_scheme Sha256 true is = absurd (let no = ap (λ (l : List ℕ). length l) is in omega (arith, no))
+other_scheme Sha256 false is = absurd (let no = ap (λ (l : List ℕ). length l) is in omega (arith, no))
+other_scheme Sha512t256 true is = absurd (let no = ap (λ (l : List ℕ). length l) is in omega (arith, no))
+other_scheme Sha512t256 false is = absurd (let no = ap (λ (l : List ℕ). length l) is in omega (arith, no))
+
 one_kind : (a b : OfferKind) → kind_name a ≡ kind_name b → a ≡ b
+one_kind ScramSha256 ScramSha256 is = refl
+one_kind ScramSha256 (Digest b t) is = absurd (other_scheme b t (sym is))
+one_kind (Digest a s) ScramSha256 is = absurd (other_scheme a s is)
 one_kind (Digest a s) (Digest b t) is =
     let parts = flag_cut (codes "-sess") (algorithm_name a) (algorithm_name b) s t (algorithm_plain a) (algorithm_plain b) is in
     let same : a ≡ b = sym (algorithm_back a) ∙ ap algorithm_of parts.1 ∙ algorithm_back b in
@@ -99,6 +113,7 @@ kind_bytes (Digest Sha256 true) = refl
 kind_bytes (Digest Sha256 false) = refl
 kind_bytes (Digest Sha512t256 true) = refl
 kind_bytes (Digest Sha512t256 false) = refl
+kind_bytes ScramSha256 = refl
 
 int_bytes : (flag : Bool) → list_all is_kind_byte (flag_text (codes "+int") flag) ≡ true
 int_bytes true = refl
@@ -162,7 +177,7 @@ offer_at (a ∷ all) (b ∷ before) part after is =
 
 -- a part that is no other offer's
 pub no_offers : (kinds : List ℕ) (before : List Offer) (part : List ℕ) (after : List (List ℕ)) → parts_of kinds ≡ map offer_text before ++ part ∷ after →
-    ((offer : Offer) → has_kind offer.kind before ≡ false → part ≢ offer_text offer) → (offers : List Offer) → IsOffers offers → kinds ≢ kinds_text offers
+    ((offer : Offer) → IsOther before offer → part ≢ offer_text offer) → (offers : List Offer) → IsOffers offers → kinds ≢ kinds_text offers
 no_offers kinds before part after parts none offers form is =
     let at = offer_at offers before part after (sym (kinds_parts offers form.some) ∙ ap parts_of (sym is) ∙ parts) in
     let P : List Offer → Type 0 = λ l. EachFits IsOther [] l in
@@ -173,7 +188,7 @@ no_offers kinds before part after parts none offers form is =
 -- a part that is no other offer's, behind those that are
 pub no_more : (kinds : List ℕ) (before : List Offer) (part : List ℕ) (n : ℕ) → map offer_text before ≡ take n (parts_of kinds) →
     (n < length (parts_of kinds)) × (part ≡ get_or (parts_of kinds) n part) →
-    ((offer : Offer) → has_kind offer.kind before ≡ false → part ≢ offer_text offer) → (offers : List Offer) → IsOffers offers → kinds ≢ kinds_text offers
+    ((offer : Offer) → IsOther before offer → part ≢ offer_text offer) → (offers : List Offer) → IsOffers offers → kinds ≢ kinds_text offers
 no_more kinds before part n names at none =
     let parts = parts_of kinds in
     no_offers kinds before part (drop (suc n) parts) (

@@ -1,6 +1,6 @@
 //! Reading what a space offers.
 ghost use Rattle.std.specs.Prelude.{◌≡◌, ◌≢◌, ◌++◌, ℕ, List, IfOk, IfSome, IfNone, false};
-ghost use Rattle.spaces_map.specs.Kinds.{IsOffers, flag_text, has_kind, kind_name, kinds_text, offer_text, same_flag, same_kind};
+ghost use Rattle.spaces_map.specs.Kinds.{IsOffers, IsOther, flag_text, has_kind, kind_name, kinds_text, offer_text, same_flag, same_kind, takes_flags};
 ghost use Rattle.spaces_map.specs.declared.space.Offer.{Offer as OfferValue};
 ghost use Rattle.spaces_map.specs.declared.space.OfferKind.{OfferKind as OfferKindValue};
 
@@ -25,6 +25,9 @@ fn kind_named(name: &[u8]) -> Option<OfferKind>
     ensures some { IfSome result (λ kind. name.now ≡ kind_name kind) }
     ensures none { IfNone result ((kind : OfferKindValue) → name.now ≢ kind_name kind) }
 {
+    if name == b"SCRAM-SHA-256".as_slice() {
+        return Some(OfferKind::ScramSha256);
+    }
     let (name, session) = split_flag(name, b"-sess");
     let Some(alg) = Algorithm::named(name) else {
         return None;
@@ -58,12 +61,27 @@ fn same_flag(a: bool, b: bool) -> bool
 fn same_kind(a: OfferKind, b: OfferKind) -> bool
     ensures { result ≡ same_kind a b }
 {
-    let OfferKind::Digest { alg, session } = a;
-    let OfferKind::Digest {
-        alg: other,
-        session: by_session,
-    } = b;
-    alg.is(other) && same_flag(session, by_session)
+    match (a, b) {
+        (
+            OfferKind::Digest { alg, session },
+            OfferKind::Digest {
+                alg: other,
+                session: by_session,
+            },
+        ) => { alg.is(other) && same_flag(session, by_session) }
+        (OfferKind::ScramSha256, OfferKind::ScramSha256) => true,
+        _ => false,
+    }
+}
+
+/// Whether a kind may have these flags.
+fn takes_flags(kind: OfferKind, auth_int: bool, userhash: bool) -> bool
+    ensures { result ≡ takes_flags kind auth_int userhash }
+{
+    match kind {
+        OfferKind::Digest { .. } => true,
+        OfferKind::ScramSha256 => !auth_int && !userhash,
+    }
 }
 
 /// Whether an offer is of this kind.
@@ -73,16 +91,19 @@ fn has_kind(offers: &[Offer], kind: OfferKind) -> bool
     offers.iter().any(|offer| same_kind(offer.kind, kind))
 }
 
-/// The offer of a part between commas, where its kind is another than each before.
+/// The offer of a part between commas, where its kind may have its flags and is another than each before.
 fn other_offer(before: &[Offer], part: &[u8]) -> Option<Offer>
     ensures some { IfSome result (λ offer. part.now ≡ offer_text offer) }
-    ensures other { IfSome result (λ offer. has_kind offer.kind before.now ≡ false) }
-    ensures none { IfNone result ((offer : OfferValue) → has_kind offer.kind before.now ≡ false → part.now ≢ offer_text offer) }
+    ensures other { IfSome result (λ offer. IsOther before.now offer) }
+    ensures none { IfNone result ((offer : OfferValue) → IsOther before.now offer → part.now ≢ offer_text offer) }
 {
     let Some(offer) = offer_in(part) else {
         return None;
     };
     if has_kind(before, offer.kind) {
+        return None;
+    }
+    if !takes_flags(offer.kind, offer.auth_int, offer.userhash) {
         return None;
     }
     Some(offer)

@@ -18,10 +18,12 @@ pub enum Mode {
 pub enum OfferKind {
     /// Digest by this hash, where `session` by its session variant (RFC 7616 section 3.4.2).
     Digest { alg: Algorithm, session: bool },
+    /// SCRAM-SHA-256 (RFC 7804, RFC 7677).
+    ScramSha256,
 }
 
 /// An offer of a space. `auth_int` says that a response over the body is offered too, `userhash` that names
-/// may come hashed (RFC 7616 section 3.4.4).
+/// may come hashed (RFC 7616 section 3.4.4). In a space both are false beside `ScramSha256`.
 #[derive(Debug, Drop, Clone, Copy, PartialEq, Eq)]
 pub struct Offer {
     pub kind: OfferKind,

@@ -82,13 +82,15 @@ fn faulty_lines() -> &'static [u8] {
 /a required SHA-256 xxxxxxxxxxxxxxxxxxxxxxxxxxxxxxxxxxxxxxxxxxxxxxxxxxxxxxxxxxxxxxxxx\n\
 /a Required SHA-256 r\n/a open SHA-256 r\n/a none SHA-256 r\n/a required sha-256 r\n/a required SHA256 r\n/a required SHA-256-SESS r\n\
 /a required SHA-256, r\n/a required ,SHA-256 r\n/a required SHA-256,,MD5 r\n/a required SHA-256,SHA-256 r\n/a required SHA-256+int,MD5,SHA-256 r\n\
-/a required SHA-256+hash+int r\n/a required SHA-256+int+int r\n/a required SHA-256+ r\n/a required +int r\n/a required SCRAM-SHA-256 r"
+/a required SHA-256+hash+int r\n/a required SHA-256+int+int r\n/a required SHA-256+ r\n/a required +int r\n\
+/a required SCRAM-SHA-256+int r\n/a required SCRAM-SHA-256+hash r\n/a required SCRAM-SHA-256,MD5,SCRAM-SHA-256 r\n\
+/a required SCRAM-SHA-256-sess r\n/a required scram-sha-256 r"
 }
 
 /// Lines of a space.
 fn good_lines() -> &'static [u8] {
     b"/a none\n/a//b none\n/~!a{} none\n/ optional SHA-256 r\n/a required MD5  r\n/a required MD5 a b c \n\
-/a required MD5,MD5-sess,SHA-256,SHA-256-sess,SHA-512-256,SHA-512-256-sess+int+hash r\n\
+/a required MD5,MD5-sess,SHA-256,SHA-256-sess,SHA-512-256,SHA-512-256-sess+int+hash,SCRAM-SHA-256 r\n/a optional SCRAM-SHA-256 r\n\
 /a required SHA-256 xxxxxxxxxxxxxxxxxxxxxxxxxxxxxxxxxxxxxxxxxxxxxxxxxxxxxxxxxxxxxxxx"
 }
 

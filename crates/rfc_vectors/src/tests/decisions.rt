@@ -1,13 +1,14 @@
-//! What each kind of request asks of the random source and of the nonce table, and how it ends. The secret and the
-//! responses are those of Python's `hashlib`.
+//! What each kind of request asks of the random source and of the nonce table, and how it ends. The secret, the keys, the
+//! responses and the proofs are those of Python's `hashlib` and `hmac`.
 ghost use Rattle.std.specs.Prelude.{◌≡◌, IfOk};
 ghost use Rattle.nonce_shard.specs.Replies.{CanAnswer};
 
+use arrayvec::ArrayVec;
 use auth_decide::{Ask, Decision, NEXT_NONCE_USES, Proof, Site, Verdict};
 use auth_grammar::{Item, ItemList, Octets, Rest, Role, value_of};
 use cred_store::Store;
 use http_wire::{Next, Request, RequestFeed};
-use nonce_shard::{Call, Reply, What};
+use nonce_shard::{Call, Exchange, ExchangeFlag, Reply, What};
 use spaces_map::Spaces;
 use std::alloc::Global;
 use std::fmt::Write;
@@ -15,11 +16,11 @@ use std::process::Abort;
 use std::test::Fail;
 
 fn store_text() -> &'static [u8] {
-    b"authstore 1\nMufasa:http-auth@example.org:sha-256:7987c64c30e25f1b74be53f966b49b90f2808aa92faf9a00262392d7b4794232\n"
+    b"authstore 1\nMufasa:http-auth@example.org:sha-256:7987c64c30e25f1b74be53f966b49b90f2808aa92faf9a00262392d7b4794232\nuser:r:scram-sha-256:4096,W22ZaJ0SNY7soEsUEjb6gQ==,WG5d8oPm3OtcPnkdi4Uo7BkeZkBFzpcXkuLmtbsT4qY=,wfPLwcE6nTWhTAmQ7tl2KeoiWGPlZqQxSrmfPwDl2dU=\n"
 }
 
 fn spaces_text() -> &'static [u8] {
-    b"authspaces 1\n/ required SHA-256 http-auth@example.org\n/sess required SHA-256-sess http-auth@example.org\n/opt optional SHA-256 http-auth@example.org\n/pub none\n"
+    b"authspaces 1\n/ required SHA-256 http-auth@example.org\n/sess required SHA-256-sess http-auth@example.org\n/opt optional SHA-256 http-auth@example.org\n/pub none\n/scram required SCRAM-SHA-256 r\n"
 }
 
 /// What the table says of the nonce and the count.
@@ -32,7 +33,7 @@ enum Held {
     Behind,
     Repeated,
     OtherSession,
-    /// Already the peek finds no nonce.
+    /// Already the first call finds nothing.
     Unheld,
 }
 
@@ -60,7 +61,32 @@ a count behind | /a | Behind | use draw issue challenge 1 stale | Authorization:
 a repeated count | /a | Repeated | use draw issue challenge 1 stale | Authorization: Digest username="Mufasa", realm="http-auth@example.org", uri="/a", algorithm=SHA-256, nonce="AQAAAAAAAAAAAAAAAAAAAAAAAAAAAAAAAAAA", nc=00000001, cnonce="0a4f113b", qop=auth, response="264b353664843e6f239f284670e4815b30d676e986a49df91362b5391f991e42"
 a session | /sess | Fresh | peek use admit Mufasa | Authorization: Digest username="Mufasa", realm="http-auth@example.org", uri="/sess", algorithm=SHA-256-sess, nonce="AQAAAAAAAAAAAAAAAAAAAAAAAAAAAAAAAAAA", nc=00000001, cnonce="0a4f113b", qop=auth, response="c71c7075e73dfe836745300c6ff53fea6cbffcf81c1208065203597b75afa0a3"
 a session of another prime | /sess | OtherSession | peek use draw issue challenge 1 | Authorization: Digest username="Mufasa", realm="http-auth@example.org", uri="/sess", algorithm=SHA-256-sess, nonce="AQAAAAAAAAAAAAAAAAAAAAAAAAAAAAAAAAAA", nc=00000001, cnonce="0a4f113b", qop=auth, response="c71c7075e73dfe836745300c6ff53fea6cbffcf81c1208065203597b75afa0a3"
-a session whose nonce is gone | /sess | Unheld | peek draw issue challenge 1 stale | Authorization: Digest username="Mufasa", realm="http-auth@example.org", uri="/sess", algorithm=SHA-256-sess, nonce="AQAAAAAAAAAAAAAAAAAAAAAAAAAAAAAAAAAA", nc=00000001, cnonce="0a4f113b", qop=auth, response="c71c7075e73dfe836745300c6ff53fea6cbffcf81c1208065203597b75afa0a3""#;
+a session whose nonce is gone | /sess | Unheld | peek draw issue challenge 1 stale | Authorization: Digest username="Mufasa", realm="http-auth@example.org", uri="/sess", algorithm=SHA-256-sess, nonce="AQAAAAAAAAAAAAAAAAAAAAAAAAAAAAAAAAAA", nc=00000001, cnonce="0a4f113b", qop=auth, response="c71c7075e73dfe836745300c6ff53fea6cbffcf81c1208065203597b75afa0a3"
+a first message | /scram | Fresh | draw open continue | Authorization: SCRAM-SHA-256 data="biwsbj11c2VyLHI9ck9wck5HZndFYmVSV2diTkVrcU8="
+a first message with the realm | /scram | Fresh | draw open continue | Authorization: SCRAM-SHA-256 realm="r", data="biwsbj11c2VyLHI9ck9wck5HZndFYmVSV2diTkVrcU8="
+a first message with another realm | /scram | Fresh | draw issue challenge 1 | Authorization: SCRAM-SHA-256 realm="s", data="biwsbj11c2VyLHI9ck9wck5HZndFYmVSV2diTkVrcU8="
+a first message of nobody | /scram | Fresh | draw issue challenge 1 | Authorization: SCRAM-SHA-256 data="biwsbj1ub2JvZHkscj1hYmM="
+a first message where SCRAM is not offered | /a | Fresh | draw issue challenge 1 | Authorization: SCRAM-SHA-256 data="biwsbj11c2VyLHI9ck9wck5HZndFYmVSV2diTkVrcU8="
+no data where SCRAM is not offered | /a | Fresh | draw issue challenge 1 | Authorization: SCRAM-SHA-256 realm="r"
+no data | /scram | Fresh | bad Scram | Authorization: SCRAM-SHA-256 realm="r"
+data that is no base64 | /scram | Fresh | bad Scram | Authorization: SCRAM-SHA-256 data="biw"
+a first message with channel binding | /scram | Fresh | bad Scram | Authorization: SCRAM-SHA-256 data="cD10bHMtdW5pcXVlLCxuPXVzZXIscj1yT3ByTkdmd0ViZVJXZ2JORWtxTw=="
+a last message without a sid | /scram | Fresh | draw issue challenge 1 | Authorization: SCRAM-SHA-256 data="Yz1iaXdz"
+a last message out of form | /scram | Fresh | bad Scram | Authorization: SCRAM-SHA-256 sid="AgAAAAAAAAAAAAAAAAAAAAAAAAAAAAAAAAAA", data="biws"
+a last message with a sid that is no name | /scram | Fresh | draw issue challenge 1 | Authorization: SCRAM-SHA-256 sid="x", data="Yz1iaXdzLHI9ck9wck5HZndFYmVSV2diTkVrcU9BZ0FBQUFBQUFBQUFBQUFBQUFBQUFBQUFBQUFBQUFBQUFBQUEscD1qYmdJYmtna1VXS09BQ1MyaU42TGRKZmh1Vi9iekZKblIwTHNwcjFNeXNFPQ=="
+a last message | /scram | Fresh | take keep admit user | Authorization: SCRAM-SHA-256 sid="AgAAAAAAAAAAAAAAAAAAAAAAAAAAAAAAAAAA", data="Yz1iaXdzLHI9ck9wck5HZndFYmVSV2diTkVrcU9BZ0FBQUFBQUFBQUFBQUFBQUFBQUFBQUFBQUFBQUFBQUFBQUEscD1qYmdJYmtna1VXS09BQ1MyaU42TGRKZmh1Vi9iekZKblIwTHNwcjFNeXNFPQ=="
+a last message of an exchange that is gone | /scram | Unheld | take draw issue challenge 1 | Authorization: SCRAM-SHA-256 sid="AgAAAAAAAAAAAAAAAAAAAAAAAAAAAAAAAAAA", data="Yz1iaXdzLHI9ck9wck5HZndFYmVSV2diTkVrcU9BZ0FBQUFBQUFBQUFBQUFBQUFBQUFBQUFBQUFBQUFBQUFBQUEscD1qYmdJYmtna1VXS09BQ1MyaU42TGRKZmh1Vi9iekZKblIwTHNwcjFNeXNFPQ=="
+a wrong proof | /scram | Fresh | take draw issue challenge 1 | Authorization: SCRAM-SHA-256 sid="AgAAAAAAAAAAAAAAAAAAAAAAAAAAAAAAAAAA", data="Yz1iaXdzLHI9ck9wck5HZndFYmVSV2diTkVrcU9BZ0FBQUFBQUFBQUFBQUFBQUFBQUFBQUFBQUFBQUFBQUFBQUEscD1qYmdJYmtna1VXS09BQ1MyaU42TGRKZmh1Vi9iekZKblIwTHNwcjFNeXNBPQ=="
+another flag | /scram | Fresh | take draw issue challenge 1 | Authorization: SCRAM-SHA-256 sid="AgAAAAAAAAAAAAAAAAAAAAAAAAAAAAAAAAAA", data="Yz1lU3dzLHI9ck9wck5HZndFYmVSV2diTkVrcU9BZ0FBQUFBQUFBQUFBQUFBQUFBQUFBQUFBQUFBQUFBQUFBQUEscD1Hb01CQTMydGFzRnF0Q1o2aE4vWXBIZ3UzMVVIWkl0c3Fia0g1aXp3SXVVPQ=="
+a nonce that is the sid | /scram | Fresh | take draw issue challenge 1 | Authorization: SCRAM-SHA-256 sid="AgAAAAAAAAAAAAAAAAAAAAAAAAAAAAAAAAAA", data="Yz1iaXdzLHI9QWdBQUFBQUFBQUFBQUFBQUFBQUFBQUFBQUFBQUFBQUFBQUFBLHA9NEZqbDhQaFhWL0JCYkRqekJITk1qU0JjejZTaDJkam9FVmRUcU41WDhsVT0="
+a nonce of another exchange and no count | /scram | Fresh | draw issue challenge 1 | Authorization: SCRAM-SHA-256 sid="AgAAAAAAAAAAAAAAAAAAAAAAAAAAAAAAAAAA", data="Yz1iaXdzLHI9ck9wck5HZndFYmVSV2diTkVrcU9BZ0FBQUFBQUFBQUFBQUVBQUFBQUFBQUFBQUFBQUFBQUFBQUEscD1GOVhlcUN3YWVEbmNQck5DQ0tRTlYveVEwOEcrUzZiZ1B5aGRJbG4wQmFJPQ=="
+a session again | /scram | Fresh | recall use admit user | Authorization: SCRAM-SHA-256 sid="AgAAAAAAAAAAAAAAAAAAAAAAAAAAAAAAAAAA", data="Yz1iaXdzLHI9YWJjPT03QVFBQUFBQUFBQUFBQUFBQUFBQUFBQUFBQUFBQUFBQUFBQUFBLHA9V3NDQ1JPZTYwUTVhWURVbWc4bmIxVnFRM04wMWVia25wb0ZTN0lGczlNYz0="
+a session again that is gone | /scram | Unheld | recall draw issue challenge 1 | Authorization: SCRAM-SHA-256 sid="AgAAAAAAAAAAAAAAAAAAAAAAAAAAAAAAAAAA", data="Yz1iaXdzLHI9YWJjPT03QVFBQUFBQUFBQUFBQUFBQUFBQUFBQUFBQUFBQUFBQUFBQUFBLHA9V3NDQ1JPZTYwUTVhWURVbWc4bmIxVnFRM04wMWVia25wb0ZTN0lGczlNYz0="
+a session again with a wrong proof | /scram | Fresh | recall draw issue challenge 1 | Authorization: SCRAM-SHA-256 sid="AgAAAAAAAAAAAAAAAAAAAAAAAAAAAAAAAAAA", data="Yz1iaXdzLHI9YWJjPT03QVFBQUFBQUFBQUFBQUFBQUFBQUFBQUFBQUFBQUFBQUFBQUFBLHA9V3NDQ1JPZTYwUTVhWURVbWc4bmIxVnFRM04wMWVia25wb0ZTN0lGczlNWT0="
+a session again by what is no name | /scram | Fresh | recall draw issue challenge 1 stale | Authorization: SCRAM-SHA-256 sid="AgAAAAAAAAAAAAAAAAAAAAAAAAAAAAAAAAAA", data="Yz1iaXdzLHI9YWJjPT03QlFBQUFBQUFBQUFBQUFBQUFBQUFBQUFBQUFBQUFBQUFBQUFBLHA9MFpOeVdsL3N5R0NEUHNXdTM2TjJaVy9IMkU5U1lHdDA2VGJ0QUc0c3Fmdz0="
+a session again by an sr that is gone | /scram | Gone | recall use draw issue challenge 1 stale | Authorization: SCRAM-SHA-256 sid="AgAAAAAAAAAAAAAAAAAAAAAAAAAAAAAAAAAA", data="Yz1iaXdzLHI9YWJjPT03QVFBQUFBQUFBQUFBQUFBQUFBQUFBQUFBQUFBQUFBQUFBQUFBLHA9V3NDQ1JPZTYwUTVhWURVbWc4bmIxVnFRM04wMWVia25wb0ZTN0lGczlNYz0="
+a session again with a count behind | /scram | Behind | recall use draw issue challenge 1 stale | Authorization: SCRAM-SHA-256 sid="AgAAAAAAAAAAAAAAAAAAAAAAAAAAAAAAAAAA", data="Yz1iaXdzLHI9YWJjPT03QVFBQUFBQUFBQUFBQUFBQUFBQUFBQUFBQUFBQUFBQUFBQUFBLHA9V3NDQ1JPZTYwUTVhWURVbWc4bmIxVnFRM04wMWVia25wb0ZTN0lGczlNYz0="
+a session again with a repeated count | /scram | Repeated | recall use draw issue challenge 1 stale | Authorization: SCRAM-SHA-256 sid="AgAAAAAAAAAAAAAAAAAAAAAAAAAAAAAAAAAA", data="Yz1iaXdzLHI9YWJjPT03QVFBQUFBQUFBQUFBQUFBQUFBQUFBQUFBQUFBQUFBQUFBQUFBLHA9V3NDQ1JPZTYwUTVhWURVbWc4bmIxVnFRM04wMWVia25wb0ZTN0lGczlNYz0=""#;
 
 impl Held {
     fn named(name: &str) -> Held {
@@ -102,7 +128,17 @@ fn fresh(uses: u32) -> Reply
     Reply::Fresh { uses }
 }
 
-/// The reply to a call, and its name. A decision on Digest makes no other calls.
+/// The exchange of RFC 7677's example, as it began.
+fn exchange() -> Exchange {
+    let mut bare = ArrayVec::new();
+    let _ = bare.try_extend_from_slice(b"n=user,r=rOprNGfwEbeRWgbNEkqO");
+    Exchange {
+        flag: ExchangeFlag::N,
+        bare,
+    }
+}
+
+/// The reply to a call, and its name.
 fn answered(call: &Call, held: Held) -> Result<(Reply, &'static str), Fail>
     ensures { IfOk result (λ answer. CanAnswer answer.0 call.now.what) }
 {
@@ -116,7 +152,22 @@ fn answered(call: &Call, held: Held) -> Result<(Reply, &'static str), Fail>
         (What::Use { .. }, Held::Repeated) => Ok((Reply::Repeated, " use")),
         (What::Use { .. }, Held::OtherSession) => Ok((Reply::OtherSession, " use")),
         (What::Use { .. }, _) => Ok((Reply::Gone, " use")),
-        _ => Err("another call")?,
+        (What::Open { .. }, _) => Ok((Reply::Opened { serial: 0 }, " open")),
+        (What::Take { .. }, Held::Unheld) => Ok((Reply::Gone, " take")),
+        (What::Take { .. }, _) => Ok((
+            Reply::Taken {
+                exchange: exchange(),
+            },
+            " take",
+        )),
+        (What::Keep { .. }, _) => Ok((Reply::Kept, " keep")),
+        (What::Recall { .. }, Held::Unheld) => Ok((Reply::Gone, " recall")),
+        (What::Recall { .. }, _) => Ok((
+            Reply::Session {
+                exchange: exchange(),
+            },
+            " recall",
+        )),
     }
 }
 
@@ -141,14 +192,14 @@ fn tell_verdict(told: &mut String, verdict: &Verdict) -> Result<(), Fail> {
         Verdict::Admit { user, proof } => {
             told.push_str(" admit ")?;
             told.push_str(str::from_utf8(user.bytes())?)?;
-            let Proof::Digest { next, .. } = proof;
-            if next.is_some() {
+            if let Proof::Digest { next: Some(_), .. } = proof {
                 told.push_str(" next")?;
             }
             Ok(())
         }
         Verdict::Open { items } => tell_items(told, "open", items),
         Verdict::Challenge { items } => tell_items(told, "challenge", items),
+        Verdict::Continue { .. } => Ok(told.push_str(" continue")?),
         Verdict::Bad { why } => Ok(write!(told, " bad {why:?}")?),
     }
 }
@@ -166,7 +217,7 @@ fn told(alloc: Global, site: &Site, request: &Request, held: Held) -> Result<Str
             Ask::Table { call, .. } => {
                 let (reply, name) = answered(&call, held)?;
                 told.push_str(name)?;
-                decision.answer(&reply);
+                decision.answer(alloc, &reply)?;
             }
             Ask::Verdict(verdict) => {
                 tell_verdict(&mut told, &verdict)?;

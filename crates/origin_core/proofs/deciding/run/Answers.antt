@@ -1,6 +1,6 @@
 use Rattle.std.proofs.Common.{◌∙◌, ◌<◌, ℕ, ap, refl, subst, sym}
 use Rattle.auth_decide.specs.Decisions.{Deciding}
-use Rattle.origin_core.proofs.Decisions.{call_is_for, goes_called, goes_drew, goes_no_draw, goes_no_memory, goes_verdict, goes_worn}
+use Rattle.origin_core.proofs.Decisions.{call_is_for, goes_called, goes_drew, goes_no_draw, goes_no_memory, goes_spent, goes_verdict, goes_worn}
 use Rattle.origin_core.proofs.deciding.run.Goals as goal
 
 pub returns-in-Ok-Verdict : goal.returns-in-Ok-Verdict
@@ -35,8 +35,18 @@ loop-verdict-preserved g c =
     let fits = rw c.in-Ok-Table.field-0-is at c.in-Ok-Table.ensures.fits in
     let inside = subst (λ (n : ℕ). c.in-Ok-Table.shard < n) (sym c.loop-verdict.invariant.shards) fits.0 in
     let grows = c.in-Ok-call.ensures.ok in record {
-      goes = λ before s incoming at. goes_called before _ _ s incoming c.loop-verdict.decision c.answer.new.self c.in-Ok-Table.shard c.in-Ok-Table.call c.in-Ok-call.reply (c.loop-verdict.invariant.goes before s incoming at) asks inside grows c.answer.ensures.stage;
-      shards = grows.same.shards ∙ c.loop-verdict.invariant.shards ∙ sym (ap (λ (d : Deciding). d.question.shards) c.answer.ensures.stage);
+      goes = λ before s incoming at. goes_called before _ _ s incoming c.loop-verdict.decision c.answer.new.self c.in-Ok-Table.shard c.in-Ok-Table.call c.in-Ok-call.reply (c.loop-verdict.invariant.goes before s incoming at) asks inside grows c.in-Ok-answer.ensures.stage;
+      shards = grows.same.shards ∙ c.loop-verdict.invariant.shards ∙ sym (ap (λ (d : Deciding). d.question.shards) c.in-Ok-answer.ensures.stage);
+    }
+
+-- the call was answered, and then there was no memory
+pub returns-in_default-answer : goal.returns-in_default-answer
+returns-in_default-answer g c =
+    let asks = rw c.in-Ok-Table.field-0-is at c.in-Ok-Table.ensures.asked in
+    let fits = rw c.in-Ok-Table.field-0-is at c.in-Ok-Table.ensures.fits in
+    let inside = subst (λ (n : ℕ). c.in-Ok-Table.shard < n) (sym c.loop-verdict.invariant.shards) fits.0 in
+    let grows = c.in-Ok-call.ensures.ok in record {
+      decided = λ before s incoming at. goes_spent before _ _ s incoming c.loop-verdict.decision c.in-Ok-Table.shard c.in-Ok-Table.call c.in-Ok-call.reply (c.loop-verdict.invariant.goes before s incoming at) asks inside grows;
     }
 
 pub returns-in-Err-call : goal.returns-in-Err-call

@@ -1,11 +1,8 @@
 use Rattle.std.proofs.Common.{◌<◌, ◌∙◌, Option, option_copied, ap, subst, sym, arith, rules}
-use Rattle.std.specs.Option.{option_map_or}
-use Rattle.nonce_shard.specs.declared.names.TableName.{TableName}
 use Rattle.auth_decide.specs.Decisions.{AsksWithin}
-use Rattle.auth_decide.specs.Stages.{presented_stage}
+use Rattle.auth_decide.specs.Messages.{scram_params}
 use Rattle.auth_decide.specs.declared.stages.Stage.{Stage}
-use Rattle.auth_decide.specs.declared.stages.Stage.TheVariants.{Open}
-use Rattle.auth_decide.proofs.Within.{first_within}
+use Rattle.auth_decide.proofs.Within.{first_within, message_counts}
 use Rattle.auth_decide.proofs.decision.Decision.start.Goals as goal
 
 pub invariant_of-result : goal.invariant_of-result
@@ -14,12 +11,13 @@ invariant_of-result c =
     let space = option_copied c.protection_space-space.result in
     let presented = c.in_ok-credentials.presented in
     let store = c.args.site.now.store in
-    let named = first_within c.args.shards request c.in_ok-credentials.credentials.nonce space store presented in
-    let is = c.in_ok-stage.ensures ∙ ap (λ (name : Option TableName). option_map_or (λ s. presented_stage request name s store presented) space Open) c.name_within-nonce.ensures in
+    let credentials = c.in_ok-credentials.credentials in
+    let counts = message_counts (scram_params credentials.field) credentials.scram c.in_ok-credentials.ensures.reads.scram in
+    let named = first_within c.args.shards request credentials space store presented counts in
     let some : 0 < c.args.shards = omega (arith, c.requires) in
     record {
       space = c.protection_space-space.ensures.space;
       realm = search rules;
       some = some;
-      within = subst (λ (s : Stage). AsksWithin c.args.shards s) (sym is) named;
+      within = subst (λ (s : Stage). AsksWithin c.args.shards s) (sym c.in_ok-stage.ensures) named;
     }
