@@ -1,13 +1,13 @@
 -- When a server has proved itself.
 use Rattle.std.proofs.Common.{◌≡◌, ◌≢◌, ◌⊎◌, ℕ, Bool, true, false, List, [], ◌∷◌, Option, Some, None, codes, map, All, refl, sym, ap, ◌∙◌, subst, inl, inr, true≢false}
-use Rattle.std.specs.Prelude.{Result, Ok, Err, ◌&&◌, bytes_eq, nat_lt, option_map, if◌then◌else◌}
+use Rattle.std.specs.Prelude.{Result, Ok, Err, ◌&&◌, bytes_eq, nat_lt, option_map, is_some, find, slice_get, length, if◌then◌else◌}
 use Rattle.std.specs.List.{join_with_byte}
 use Rattle.std.proofs.lemmas.List.Elements.{All-nil, All-cons}
 use Rattle.std.proofs.lemmas.Slice.Eq.{bytes_eq-Decides}
 use Rattle.auth_grammar.proofs.RepeatLaws.{second_is}
 use Rattle.auth_grammar.specs.Answers.{Refuses}
 use Rattle.auth_grammar.specs.Items.{SpellsParams, unplaced}
-use Rattle.auth_grammar.specs.Names.{has_repeat, params_of}
+use Rattle.auth_grammar.specs.Names.{has_repeat, params_of, value_of}
 use Rattle.auth_grammar.specs.Repeats.{AreSingle, lists_in, params_in}
 use Rattle.auth_grammar.specs.declared.error.GrammarError.{GrammarError}
 use Rattle.auth_grammar.specs.declared.error.GrammarError.TheVariants.{NotGrammar, Twice, OutOfMemory}
@@ -31,15 +31,29 @@ use Rattle.client_core.specs.declared.reading.Said.TheVariants as said
 use Rattle.client_core.specs.declared.request.OutRequest.{OutRequest}
 use Rattle.client_core.specs.declared.request.Sent.{Sent}
 use Rattle.client_core.specs.declared.request.Sent.TheVariants as sent
+use Rattle.client_core.specs.declared.choice.Choice.{Choice}
+use Rattle.client_core.specs.declared.choice.Choice.TheVariants as choice
+use Rattle.client_core.specs.declared.hearing.Heard.{Heard}
+use Rattle.client_core.specs.declared.hearing.Heard.TheVariants as heard
 use Rattle.client_core.specs.declared.state.Change.{Change}
+use Rattle.client_core.specs.declared.state.Change.TheVariants.{Answer, Fail, Finish, Pass}
+use Rattle.client_core.specs.declared.state.Exchange.{Exchange}
+use Rattle.client_core.specs.declared.state.First.{First}
+use Rattle.client_core.specs.declared.state.Progress.{Progress}
+use Rattle.client_core.specs.declared.state.Progress.TheVariants as progress
+use Rattle.client_core.specs.declared.state.Progress.TheVariants.{Begun, Answered, Finished}
 use Rattle.client_core.specs.declared.state.Chosen.{Chosen}
-use Rattle.client_core.specs.declared.state.Chosen.TheVariants.{Nothing, Digest}
+use Rattle.client_core.specs.declared.state.Chosen.TheVariants.{Nothing, Digest, Scram}
 use Rattle.client_core.specs.declared.state.State.{State}
 use Rattle.client_core.specs.declared.state.User.{User}
 use Rattle.client_core.specs.Choices.{choice_of}
 use Rattle.client_core.specs.Clients.{Concludes}
-use Rattle.client_core.specs.Conclusions.{absent_or, after_choice, agrees, answered_body, challenged, choosing, chosen_of, concluded, conclusion, digest_informed, informed, mutual_change, refusal, renewed, renewing, right_value, told, unproved, wrong}
-use Rattle.client_core.specs.Laws.{IsAbsentOr, IsProof, MutualExactly, Proves, ProvesDigest}
+use Rattle.client_core.specs.Conclusions.{absent_or, after_choice, agrees, answered_body, challenged, choosing, concluded, digest_choosing, digest_chosen, digest_informed, informed, mutual_change, renewed, renewing, right_value, scram_choosing, told, unproved}
+use Rattle.client_core.specs.Hearings.{Hears, HearsFinal, HearsIn, continued}
+use Rattle.client_core.specs.Outcomes.{conclusion, malformed, refusal, wrong}
+use Rattle.client_core.specs.ScramConclusions.{after_again, after_begun, after_first, again_signed, again_told, answering, exchange_of, final_signed, final_told, follows, has_message, is_of_scram, signed_told}
+use Rattle.client_core.specs.Laws.{IsAbsentOr, IsProof, MutualExactly, Proves, ProvesAgain, ProvesDigest, ProvesFinal}
+use Rattle.client_core.proofs.ScramProofs.{proves_signed, signed_proves}
 use Rattle.client_core.specs.Readings.{IsFaultAt, SaysInfo, Says, SpellsInfo, info_field, is_provable, lines_of}
 
 -- ---- a text that spells parameters isn't refused
@@ -135,9 +149,41 @@ digest_proves user request item response params (Ok c) (Ok i) sent_is told_is e 
       nc = absent i.nc c.nc last.1;
     }
 
-choosing_not : (count : ℕ) (found : Option Chosen) → (choosing count found).outcome ≡ Mutual → ⊥
-choosing_not count (Some found) e = let clash : Retry ≡ Mutual = e in cc
-choosing_not count None e = let clash : NoOffer count ≡ Mutual = e in cc
+digest_choosing_not : (items : List Item) (found : Option Chosen) → (digest_choosing items found).outcome ≡ Mutual → ⊥
+digest_choosing_not items (Some found) e = let clash : Retry ≡ Mutual = e in cc
+digest_choosing_not items None e = let clash : NoOffer (length items) ≡ Mutual = e in cc
+
+scram_choosing_not : (items : List Item) (moment : ℕ) (found : Option Item) → (scram_choosing items moment found).outcome ≡ Mutual → ⊥
+scram_choosing_not items moment (Some item) e = let clash : Retry ≡ Mutual = e in cc
+scram_choosing_not items moment None e = let clash : NoOffer (length items) ≡ Mutual = e in cc
+
+choosing_not : (items : List Item) (moment : ℕ) (c : Choice) → (choosing items moment c).outcome ≡ Mutual → ⊥
+choosing_not items moment choice.Nothing e = let clash : NoOffer (length items) ≡ Mutual = e in cc
+choosing_not items moment (choice.Digest at) e = digest_choosing_not items (digest_chosen items at) e
+choosing_not items moment (choice.Scram at) e = scram_choosing_not items moment (slice_get items at) e
+
+following_not : (b : Bool) (x : Exchange) → (if b then conclusion Retry (Answer x) else malformed).outcome ≡ Mutual → ⊥
+following_not true x e = let clash : Retry ≡ Mutual = e in cc
+following_not false x e = let clash : Malformed 0 ≡ Mutual = e in cc
+
+answering_not : (user : User) (first : First) (sid : List ℕ) (told : Heard) → (answering user first sid told).outcome ≡ Mutual → ⊥
+answering_not user first sid (heard.First message) e = following_not (follows first.nonce message) (exchange_of user first sid message) e
+answering_not user first sid heard.Nothing e = let clash : Malformed 0 ≡ Mutual = e in cc
+answering_not user first sid (heard.Final message) e = let clash : Malformed 0 ≡ Mutual = e in cc
+
+after_begun_not : (user : User) (sid : List ℕ) (told : Heard) (progress : Progress) → (after_begun user sid told progress).outcome ≡ Mutual → ⊥
+after_begun_not user sid told (Begun first) e = answering_not user first sid told e
+after_begun_not user sid told progress.Nothing e = let clash : Refused ≡ Mutual = e in cc
+after_begun_not user sid told (Answered x) e = let clash : Refused ≡ Mutual = e in cc
+after_begun_not user sid told (Finished x nonce) e = let clash : Refused ≡ Mutual = e in cc
+
+after_first_not : (s : State) (found : Option (List ℕ × List ℕ)) (told : Heard) → (after_first s found told).outcome ≡ Mutual → ⊥
+after_first_not s None told e = let clash : Refused ≡ Mutual = e in cc
+after_first_not s (Some found) told e = after_begun_not s.user found.0 told s.progress e
+
+after_again_not : (moment : ℕ) (found : Option Item) → (after_again moment found).outcome ≡ Mutual → ⊥
+after_again_not moment None e = let clash : Refused ≡ Mutual = e in cc
+after_again_not moment (Some item) e = let clash : Retry ≡ Mutual = e in cc
 
 renewing_not : (nonce : Option (List ℕ)) → (renewing nonce).outcome ≡ Mutual → ⊥
 renewing_not (Some nonce) e = let clash : Retry ≡ Mutual = e in cc
@@ -149,14 +195,15 @@ limited_not false n e = let clash : Refused ≡ Mutual = e in cc
 
 after_choice_not : (stale : ℕ) (items : List Item) (choice : Chosen) → (after_choice stale items choice).outcome ≡ Mutual → ⊥
 after_choice_not stale items Nothing e = let clash : Refused ≡ Mutual = e in cc
+after_choice_not stale items (Scram choice) e = let clash : Refused ≡ Mutual = e in cc
 after_choice_not stale items (Digest choice) e = limited_not (nat_lt stale 2) (renewed choice.challenge items) e
 
-challenged_not : (s : State) (what : Sent) (items : List Item) → (challenged s what items).outcome ≡ Mutual → ⊥
-challenged_not s sent.Nothing items e = choosing_not _ (chosen_of items (choice_of items)) e
-challenged_not s (sent.Digest item) items e = after_choice_not s.stale items s.choice e
-challenged_not s (sent.ScramFirst item) items e = let clash : Refused ≡ Mutual = e in cc
-challenged_not s (sent.ScramFinal item) items e = let clash : Refused ≡ Mutual = e in cc
-challenged_not s (sent.ScramAgain item) items e = let clash : Refused ≡ Mutual = e in cc
+challenged_not : (s : State) (what : Sent) (items : List Item) (moment : ℕ) (told : Heard) → (challenged s what items moment told).outcome ≡ Mutual → ⊥
+challenged_not s sent.Nothing items moment told e = choosing_not items moment (choice_of items) e
+challenged_not s (sent.Digest item) items moment told e = after_choice_not s.stale items s.choice e
+challenged_not s (sent.ScramFirst item) items moment told e = after_first_not s (continued items) told e
+challenged_not s (sent.ScramFinal item) items moment told e = let clash : Refused ≡ Mutual = e in cc
+challenged_not s (sent.ScramAgain item) items moment told e = after_again_not moment (find is_of_scram items) e
 
 unproved_not : (what : Sent) → (unproved what).outcome ≡ Mutual → ⊥
 unproved_not sent.Nothing e = let clash : OneWay ≡ Mutual = e in cc
@@ -168,22 +215,42 @@ unproved_not (sent.ScramAgain item) e = let clash : OneWay ≡ Mutual = e in cc
 abbrev IsWrong : Type 0
 IsWrong = WrongProof ≡ Mutual
 
-informed_proves : (s : State) (request : OutRequest) (what : Sent) (response : Response) (params : List Param)
-    → (informed s.user request what response params).outcome ≡ Mutual → (is_provable what ≡ true) × IsProof s.user request what response params
-informed_proves s request sent.Nothing response params e = absurd (let clash : IsWrong = e in cc)
-informed_proves s request (sent.Digest item) response params e =
-    (refl, digest_proves s.user request item response params (credentials_of (params_of item.rest)) (info_of params) refl refl e)
-informed_proves s request (sent.ScramFirst item) response params e = absurd (let clash : IsWrong = e in cc)
-informed_proves s request (sent.ScramFinal item) response params e = absurd (let clash : IsWrong = e in cc)
-informed_proves s request (sent.ScramAgain item) response params e = absurd (let clash : IsWrong = e in cc)
+signed_mutual : (there : Bool) (absent proved : Change) (b : Bool) → (signed_told there absent proved b).outcome ≡ Mutual → b ≡ true
+signed_mutual false absent proved b e = absurd (let clash : OneWay ≡ Mutual = e in cc)
+signed_mutual true absent proved b e = test_true b proved e
 
-proves : (s : State) (request : OutRequest) (what : Sent) (response : Response) (read : Said) → Says s.role what response read
-    → (concluded s request what response read).outcome ≡ Mutual → Proves s request what response
-proves s request what response (said.Malformed at) says e = absurd (let clash : Malformed at ≡ Mutual = e in cc)
-proves s request what response (said.Challenge items) says e = absurd (challenged_not s what items e)
-proves s request what response said.Nothing says e = absurd (unproved_not what e)
-proves s request what response (said.Info params) says e =
-    let proof = informed_proves s request what response params e in
+final_proves : (s : State) (params : List Param) (told : Heard) (progress : Progress) → s.progress ≡ progress → final_signed told progress ≡ true
+    → HearsIn HearsFinal (value_of (codes "data") params) told → ProvesFinal s params
+final_proves s params told (Answered x) is e hears = record { exchange = x; sent = is; proof = signed_proves params x x.nonce told e hears }
+final_proves s params told progress.Nothing is e hears = absurd (true≢false (sym e))
+final_proves s params told (Begun first) is e hears = absurd (true≢false (sym e))
+final_proves s params told (Finished x nonce) is e hears = absurd (true≢false (sym e))
+
+again_proves : (s : State) (params : List Param) (told : Heard) (progress : Progress) → s.progress ≡ progress → again_signed told progress ≡ true
+    → HearsIn HearsFinal (value_of (codes "data") params) told → ProvesAgain s params
+again_proves s params told (Finished x nonce) is e hears = record { exchange = x; nonce = nonce; sent = is; proof = signed_proves params x nonce told e hears }
+again_proves s params told progress.Nothing is e hears = absurd (true≢false (sym e))
+again_proves s params told (Begun first) is e hears = absurd (true≢false (sym e))
+again_proves s params told (Answered x) is e hears = absurd (true≢false (sym e))
+
+informed_proves : (s : State) (request : OutRequest) (what : Sent) (response : Response) (params : List Param) (told : Heard) → Hears what (said.Info params) told
+    → (informed s request what response params told).outcome ≡ Mutual → (is_provable what ≡ true) × IsProof s request what response params
+informed_proves s request sent.Nothing response params told hears e = absurd (let clash : IsWrong = e in cc)
+informed_proves s request (sent.Digest item) response params told hears e =
+    (refl, digest_proves s.user request item response params (credentials_of (params_of item.rest)) (info_of params) refl refl e)
+informed_proves s request (sent.ScramFirst item) response params told hears e = absurd (let clash : IsWrong = e in cc)
+informed_proves s request (sent.ScramFinal item) response params told hears e =
+    (refl, final_proves s params told s.progress refl (signed_mutual (has_message params) Fail Finish (final_signed told s.progress) e) hears)
+informed_proves s request (sent.ScramAgain item) response params told hears e =
+    (refl, again_proves s params told s.progress refl (signed_mutual (has_message params) Pass Pass (again_signed told s.progress) e) hears)
+
+proves : (s : State) (request : OutRequest) (what : Sent) (response : Response) (moment : ℕ) (read : Said) (told : Heard) → Says s.role what response read → Hears what read told
+    → (concluded s request what response moment read told).outcome ≡ Mutual → Proves s request what response
+proves s request what response moment (said.Malformed at) told says hears e = absurd (let clash : Malformed at ≡ Mutual = e in cc)
+proves s request what response moment (said.Challenge items) told says hears e = absurd (challenged_not s what items moment told e)
+proves s request what response moment said.Nothing told says hears e = absurd (unproved_not what e)
+proves s request what response moment (said.Info params) told says hears e =
+    let proof = informed_proves s request what response params told hears e in
     let lines = info_lines (lines_of response (info_field s.role)) params (says.proof says.challenge proof.0) in
     record { no_challenge = says.challenge; params = params; there = lines.0; spelled = lines.1; proof = proof.1 }
 
@@ -204,21 +271,44 @@ digest_mutual user request item response params h =
     ∙ ap (λ (value : Option (List ℕ)). (told user body c i value).outcome) h.value
     ∙ ap (λ (b : Bool). (if b then conclusion Mutual (mutual_change i.nextnonce) else wrong).outcome) test
 
-informed_mutual : (s : State) (request : OutRequest) (what : Sent) (response : Response) (params : List Param) → IsProof s.user request what response params
-    → (is_provable what ≡ true) × ((informed s.user request what response params).outcome ≡ Mutual)
-informed_mutual s request sent.Nothing response params h = absurd h
-informed_mutual s request (sent.Digest item) response params h = (refl, digest_mutual s.user request item response params h)
-informed_mutual s request (sent.ScramFirst item) response params h = absurd h
-informed_mutual s request (sent.ScramFinal item) response params h = absurd h
-informed_mutual s request (sent.ScramAgain item) response params h = absurd h
+signed_outcome : (there : Bool) (absent proved : Change) (b : Bool) → there ≡ true → b ≡ true → (signed_told there absent proved b).outcome ≡ Mutual
+signed_outcome there absent proved b is e = rw (is, e) refl
 
-means_mutual : (s : State) (request : OutRequest) (what : Sent) (response : Response) (read : Said) → Says s.role what response read
-    → Proves s request what response → (concluded s request what response read).outcome ≡ Mutual
-means_mutual s request what response read says h =
-    let told = informed_mutual s request what response h.params h.proof in
-    let is : read ≡ said.Info h.params = info_only (lines_of response (info_field s.role)) read h.params h.there h.spelled (says.proof h.no_challenge told.0) in
-    ap (λ (x : Said). (concluded s request what response x).outcome) is ∙ told.1
+final_mutual : (s : State) (params : List Param) (told : Heard) → ProvesFinal s params → HearsIn HearsFinal (value_of (codes "data") params) told → (final_told s params told).outcome ≡ Mutual
+final_mutual s params told h hears =
+    signed_outcome (has_message params) Fail Finish (final_signed told s.progress) (ap is_some h.proof.there)
+    (ap (final_signed told) h.sent ∙ proves_signed params h.exchange h.exchange.nonce told h.proof hears)
+
+again_mutual : (s : State) (params : List Param) (told : Heard) → ProvesAgain s params → HearsIn HearsFinal (value_of (codes "data") params) told → (again_told s params told).outcome ≡ Mutual
+again_mutual s params told h hears =
+    signed_outcome (has_message params) Pass Pass (again_signed told s.progress) (ap is_some h.proof.there)
+    (ap (again_signed told) h.sent ∙ proves_signed params h.exchange h.nonce told h.proof hears)
+
+provable : (s : State) (request : OutRequest) (what : Sent) (response : Response) (params : List Param) → IsProof s request what response params → is_provable what ≡ true
+provable s request sent.Nothing response params h = absurd h
+provable s request (sent.Digest item) response params h = refl
+provable s request (sent.ScramFirst item) response params h = absurd h
+provable s request (sent.ScramFinal item) response params h = refl
+provable s request (sent.ScramAgain item) response params h = refl
+
+informed_mutual : (s : State) (request : OutRequest) (what : Sent) (response : Response) (params : List Param) (told : Heard) → IsProof s request what response params
+    → Hears what (said.Info params) told → (informed s request what response params told).outcome ≡ Mutual
+informed_mutual s request sent.Nothing response params told h hears = absurd h
+informed_mutual s request (sent.Digest item) response params told h hears = digest_mutual s.user request item response params h
+informed_mutual s request (sent.ScramFirst item) response params told h hears = absurd h
+informed_mutual s request (sent.ScramFinal item) response params told h hears = final_mutual s params told h hears
+informed_mutual s request (sent.ScramAgain item) response params told h hears = again_mutual s params told h hears
+
+means_mutual : (s : State) (request : OutRequest) (what : Sent) (response : Response) (moment : ℕ) (read : Said) (told : Heard) → Says s.role what response read → Hears what read told
+    → Proves s request what response → (concluded s request what response moment read told).outcome ≡ Mutual
+means_mutual s request what response moment read told says hears h =
+    let shown = provable s request what response h.params h.proof in
+    let is : read ≡ said.Info h.params = info_only (lines_of response (info_field s.role)) read h.params h.there h.spelled (says.proof h.no_challenge shown) in
+    ap (λ (x : Said). (concluded s request what response moment x told).outcome) is
+    ∙ informed_mutual s request what response h.params told h.proof (subst (λ (x : Said). Hears what x told) is hears)
 
 pub mutual_exactly : MutualExactly
-mutual_exactly s t request what response outcome h =
-    ((λ e. proves s request what response h.said h.says (sym h.means ∙ e)), (λ p. h.means ∙ means_mutual s request what response h.said h.says p))
+mutual_exactly s t request what response moment outcome h = (
+  (λ e. proves s request what response moment h.said h.heard h.says h.hears (sym h.means ∙ e)),
+  (λ p. h.means ∙ means_mutual s request what response moment h.said h.heard h.says h.hears p),
+)

@@ -14,12 +14,18 @@ use Rattle.client_core.specs.declared.request.OutRequest.{OutRequest}
 use Rattle.client_core.specs.declared.request.Sent.{Sent}
 use Rattle.client_core.specs.declared.request.Sent.TheVariants as sent
 use Rattle.client_core.specs.declared.state.Chosen.{Chosen}
-use Rattle.client_core.specs.declared.state.Chosen.TheVariants.{Nothing, Digest}
+use Rattle.client_core.specs.declared.state.Chosen.TheVariants.{Nothing, Digest, Scram}
 use Rattle.client_core.specs.declared.state.DigestChoice.{DigestChoice}
+use Rattle.client_core.specs.declared.state.Exchange.{Exchange}
+use Rattle.client_core.specs.declared.state.Progress.{Progress}
+use Rattle.client_core.specs.declared.state.Progress.TheVariants as progress
+use Rattle.client_core.specs.declared.state.Reuse.{Reuse}
 use Rattle.client_core.specs.declared.state.State.{State}
 use Rattle.client_core.specs.Counts.{Drawn, count_of, with_count}
 use Rattle.client_core.specs.Digests.{DrewAtMost, can_use, credentials_with, digest_given, given_by_nonce, given_with, next_draw}
 use Rattle.client_core.specs.Domains.{lets_pass}
+use Rattle.client_core.specs.Givings.{again_by, again_given, again_next, by_choice, given as given_of, given_at, or_choice}
+use Rattle.client_core.specs.Scrams.{can_reuse}
 use Rattle.client_core.specs.Laws.{AreDistinct, Call, Gave, Failed, Other, GivesOnce, IsOther, Leave, Leaves, Use, use_in, uses}
 use Rattle.client_core.proofs.CountLaws.{count-with_grows, count-with_same}
 
@@ -91,19 +97,48 @@ by_nonce : (s : State) (request : OutRequest) (words : List ℕ) (choice : Diges
 by_nonce s request words choice None = (inl refl, tt)
 by_nonce s request words choice (Some nonce) = by_test s request words choice nonce (can_use s.role s.drawn choice nonce request) refl
 
-by_choice : (s : State) (request : OutRequest) (words : List ℕ) (choice : Chosen) → GivesNext s (digest_given s request words choice)
-by_choice s request words Nothing = (inl refl, tt)
-by_choice s request words (Digest choice) = by_nonce s request words choice choice.nonce
+by_digest : (s : State) (request : OutRequest) (words : List ℕ) (choice : Chosen) → GivesNext s (digest_given s request words choice)
+by_digest s request words Nothing = (inl refl, tt)
+by_digest s request words (Scram choice) = (inl refl, tt)
+by_digest s request words (Digest choice) = by_nonce s request words choice choice.nonce
 
-gave_next : (s t : State) (request : OutRequest) (words : List ℕ) (what : Sent) → digest_given s request words s.choice ≡ (what, t) → GivesNext s (what, t)
-gave_next s t request words what e = subst (λ (p : Sent × State). GivesNext s p) e (by_choice s request words s.choice)
+chosen_next : (s : State) (request : OutRequest) (words : List ℕ) (choice : Chosen) → GivesNext s (by_choice s request words choice)
+chosen_next s request words Nothing = (inl refl, tt)
+chosen_next s request words (Digest choice) = by_digest s request words (Digest choice)
+chosen_next s request words (Scram choice) = (inl refl, tt)
+
+reused_next : (s : State) (request : OutRequest) (words : List ℕ) (x : Exchange) (reuse : Reuse) (b : Bool)
+    → GivesNext s (or_choice s request words (if b then Some (again_next s x reuse words) else None))
+reused_next s request words x reuse true = (inr (reuse.sr, refl), tt)
+reused_next s request words x reuse false = chosen_next s request words s.choice
+
+again_by_next : (s : State) (request : OutRequest) (moment : ℕ) (words : List ℕ) (x : Exchange) (reuse : Option Reuse)
+    → GivesNext s (or_choice s request words (again_by s moment words x reuse))
+again_by_next s request moment words x None = chosen_next s request words s.choice
+again_by_next s request moment words x (Some reuse) = reused_next s request words x reuse (can_reuse s.drawn reuse moment)
+
+again_given_next : (s : State) (request : OutRequest) (moment : ℕ) (words : List ℕ) (progress : Progress) (reuse : Option Reuse)
+    → GivesNext s (or_choice s request words (again_given s moment words progress reuse))
+again_given_next s request moment words progress.Nothing reuse = chosen_next s request words s.choice
+again_given_next s request moment words (progress.Begun first) reuse = chosen_next s request words s.choice
+again_given_next s request moment words (progress.Answered x) reuse = chosen_next s request words s.choice
+again_given_next s request moment words (progress.Finished x nonce) reuse = again_by_next s request moment words x reuse
+
+given_next : (s : State) (request : OutRequest) (moment : ℕ) (words : List ℕ) (progress : Progress) → GivesNext s (given_at s request moment words progress)
+given_next s request moment words (progress.Answered x) = (inl refl, tt)
+given_next s request moment words progress.Nothing = again_given_next s request moment words s.progress s.reuse
+given_next s request moment words (progress.Begun first) = again_given_next s request moment words s.progress s.reuse
+given_next s request moment words (progress.Finished x nonce) = again_given_next s request moment words s.progress s.reuse
+
+gave_next : (s t : State) (request : OutRequest) (moment : ℕ) (words : List ℕ) (what : Sent) → given_of s request moment words ≡ (what, t) → GivesNext s (what, t)
+gave_next s t request moment words what e = subst (λ (p : Sent × State). GivesNext s p) e (given_next s request moment words s.progress)
 
 failed_draws : (s t : State) → DrewAtMost s t → Draws s.drawn t.drawn
 failed_draws s t (inl same) = inl (ap (λ (x : State). x.drawn) same)
 failed_draws s t (inr drew) = inr (drew.0, ap (λ (x : State). x.drawn) drew.1)
 
 leaves_draws : (s t : State) (call : Call) → Leaves s call t → Draws s.drawn t.drawn
-leaves_draws s t (Gave request words what) e = (gave_next s t request words what e).0
+leaves_draws s t (Gave request moment words what) e = (gave_next s t request moment words what e).0
 leaves_draws s t Failed e = failed_draws s t e
 leaves_draws s t Other e = inl e
 
@@ -132,14 +167,14 @@ next_later : (d e : Drawn) (one : Use) → IsNext d e one → IsLater d one
 next_later d e one h = record { nonce = h.nonce; count = h.count; fits = h.fits; later = h.next; is = h.is }
 
 with_call : (s u t : State) (call : Call) (calls : List Call) → Leaves s call u → AreLater u.drawn (uses calls) → AreLater s.drawn (uses (call ∷ calls))
-with_call s u t (Gave request words sent.Nothing) calls e h = later_before s.drawn u.drawn (leaves_draws s u (Gave request words sent.Nothing) e) (uses calls) h
-with_call s u t (Gave request words (sent.Digest item)) calls e h = (
-  next_later s.drawn u.drawn (use_in (params_of item.rest)) (gave_next s u request words (sent.Digest item) e).1,
-  later_before s.drawn u.drawn (leaves_draws s u (Gave request words (sent.Digest item)) e) (uses calls) h,
+with_call s u t (Gave request moment words sent.Nothing) calls e h = later_before s.drawn u.drawn (leaves_draws s u (Gave request moment words sent.Nothing) e) (uses calls) h
+with_call s u t (Gave request moment words (sent.Digest item)) calls e h = (
+  next_later s.drawn u.drawn (use_in (params_of item.rest)) (gave_next s u request moment words (sent.Digest item) e).1,
+  later_before s.drawn u.drawn (leaves_draws s u (Gave request moment words (sent.Digest item)) e) (uses calls) h,
 )
-with_call s u t (Gave request words (sent.ScramFirst item)) calls e h = later_before s.drawn u.drawn (leaves_draws s u (Gave request words (sent.ScramFirst item)) e) (uses calls) h
-with_call s u t (Gave request words (sent.ScramFinal item)) calls e h = later_before s.drawn u.drawn (leaves_draws s u (Gave request words (sent.ScramFinal item)) e) (uses calls) h
-with_call s u t (Gave request words (sent.ScramAgain item)) calls e h = later_before s.drawn u.drawn (leaves_draws s u (Gave request words (sent.ScramAgain item)) e) (uses calls) h
+with_call s u t (Gave request moment words (sent.ScramFirst item)) calls e h = later_before s.drawn u.drawn (leaves_draws s u (Gave request moment words (sent.ScramFirst item)) e) (uses calls) h
+with_call s u t (Gave request moment words (sent.ScramFinal item)) calls e h = later_before s.drawn u.drawn (leaves_draws s u (Gave request moment words (sent.ScramFinal item)) e) (uses calls) h
+with_call s u t (Gave request moment words (sent.ScramAgain item)) calls e h = later_before s.drawn u.drawn (leaves_draws s u (Gave request moment words (sent.ScramAgain item)) e) (uses calls) h
 with_call s u t Failed calls e h = later_before s.drawn u.drawn (leaves_draws s u Failed e) (uses calls) h
 with_call s u t Other calls e h = later_before s.drawn u.drawn (leaves_draws s u Other e) (uses calls) h
 
@@ -170,12 +205,12 @@ others d e one h [] later = tt
 others d e one h (other ∷ more) later = (apart d e one other h later.0, others d e one h more later.1)
 
 distinct_with : (s u t : State) (call : Call) (calls : List Call) → Leaves s call u → AreLater u.drawn (uses calls) → AreDistinct (uses calls) → AreDistinct (uses (call ∷ calls))
-distinct_with s u t (Gave request words (sent.Digest item)) calls e later h =
-    (others s.drawn u.drawn (use_in (params_of item.rest)) (gave_next s u request words (sent.Digest item) e).1 (uses calls) later, h)
-distinct_with s u t (Gave request words sent.Nothing) calls e later h = h
-distinct_with s u t (Gave request words (sent.ScramFirst item)) calls e later h = h
-distinct_with s u t (Gave request words (sent.ScramFinal item)) calls e later h = h
-distinct_with s u t (Gave request words (sent.ScramAgain item)) calls e later h = h
+distinct_with s u t (Gave request moment words (sent.Digest item)) calls e later h =
+    (others s.drawn u.drawn (use_in (params_of item.rest)) (gave_next s u request moment words (sent.Digest item) e).1 (uses calls) later, h)
+distinct_with s u t (Gave request moment words sent.Nothing) calls e later h = h
+distinct_with s u t (Gave request moment words (sent.ScramFirst item)) calls e later h = h
+distinct_with s u t (Gave request moment words (sent.ScramFinal item)) calls e later h = h
+distinct_with s u t (Gave request moment words (sent.ScramAgain item)) calls e later h = h
 distinct_with s u t Failed calls e later h = h
 distinct_with s u t Other calls e later h = h
 

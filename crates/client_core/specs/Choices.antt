@@ -1,19 +1,23 @@
--- Which challenge is answered (RFC 7616 section 3.7).
-use Rattle.std.specs.Prelude.{ℕ, List, [], ◌∷◌, Option, Some, None, Bool, false, not, ◌&&◌, if◌then◌else◌, codes, position}
+-- Which challenge is answered (RFC 7616 section 3.7, RFC 7804 section 5).
+use Rattle.std.specs.Prelude.{ℕ, List, [], ◌∷◌, Option, Some, None, is_none, Bool, false, not, ◌&&◌, if◌then◌else◌, codes, position}
 use Rattle.std.specs.Option.{option_map_or}
 use Rattle.std.specs.Result.{result_ok}
 use Rattle.auth_grammar.specs.declared.items.Item.{Item}
-use Rattle.auth_grammar.specs.Names.{has_repeat, params_of, same_name}
+use Rattle.auth_grammar.specs.Names.{has_repeat, params_of, same_name, value_of}
 use Rattle.auth_hash.specs.Algorithm.{same_algorithm}
 use Rattle.auth_hash.specs.declared.algorithm.Algorithm.{Algorithm}
 use Rattle.auth_hash.specs.declared.algorithm.Algorithm.TheVariants.{Md5, Sha256, Sha512t256}
 use Rattle.digest_fields.specs.Challenge.{Challenge, challenge_of}
 use Rattle.client_core.specs.declared.choice.Choice.{Choice}
-use Rattle.client_core.specs.declared.choice.Choice.TheVariants.{Nothing, Digest}
+use Rattle.client_core.specs.declared.choice.Choice.TheVariants.{Nothing, Digest, Scram}
 
 -- the item is of that scheme, and no name comes twice in it
 abbrev pub is_sound : List ℕ → Item → Bool
 is_sound scheme item = same_name item.scheme scheme && not (has_repeat (params_of item.rest))
+
+-- the item begins an exchange of SCRAM-SHA-256, since it doesn't go on with one
+abbrev pub is_scram : Item → Bool
+is_scram item = is_sound (codes "SCRAM-SHA-256") item && is_none (value_of (codes "sid") (params_of item.rest))
 
 -- the challenge that the item is, where it is one of Digest whose parameters are accepted
 abbrev pub offered : Item → Option Challenge
@@ -37,6 +41,10 @@ abbrev pub digest_choice : Option ℕ → Choice
 digest_choice (Some at) = Digest at
 digest_choice None = Nothing
 
--- which item is answered
+abbrev pub scram_choice : Option ℕ → Choice → Choice
+scram_choice (Some at) other = Scram at
+scram_choice None other = other
+
+-- which item is answered: SCRAM-SHA-256 goes first, and of equals the first counts
 abbrev pub choice_of : List Item → Choice
-choice_of items = digest_choice (digest_place items)
+choice_of items = scram_choice (position is_scram items) (digest_choice (digest_place items))

@@ -1,8 +1,8 @@
--- What a response means (RFC 7616 sections 3.3 to 3.5, RFC 7615).
-use Rattle.std.specs.Prelude.{ℕ, nat_lt, List, [], ◌∷◌, length, codes, bytes_eq, slice_get, Option, Some, None, option_map, option_and_then, Result, Ok, Err, Bool, true, not, ◌&&◌, if◌then◌else◌}
+-- What a response means (RFC 7616 sections 3.3 to 3.5, RFC 7615, RFC 7804 section 5).
+use Rattle.std.specs.Prelude.{ℕ, nat_lt, List, [], ◌∷◌, length, codes, bytes_eq, slice_get, find, Option, Some, None, option_map, option_and_then, Result, Ok, Err, Bool, true, not, ◌&&◌, if◌then◌else◌}
 use Rattle.auth_grammar.specs.declared.items.Item.{Item}
 use Rattle.auth_grammar.specs.declared.items.Param.{Param}
-use Rattle.auth_grammar.specs.Names.{params_of}
+use Rattle.auth_grammar.specs.Names.{params_of, value_of}
 use Rattle.auth_hash.specs.Algorithm.{same_algorithm}
 use Rattle.auth_hash.specs.Qop.{qop_name}
 use Rattle.digest_fields.specs.Challenge.{Challenge}
@@ -15,15 +15,15 @@ use Rattle.http_wire.specs.declared.response.Response.{Response}
 use Rattle.client_core.specs.declared.choice.Choice.{Choice}
 use Rattle.client_core.specs.declared.choice.Choice.TheVariants as choice
 use Rattle.client_core.specs.declared.conclusion.Conclusion.{Conclusion}
-use Rattle.client_core.specs.declared.outcome.Outcome.{Outcome}
-use Rattle.client_core.specs.declared.outcome.Outcome.TheVariants.{Mutual, OneWay, Retry, Refused, WrongProof, NoOffer, Malformed}
+use Rattle.client_core.specs.declared.outcome.Outcome.TheVariants.{Mutual, OneWay, Retry, NoOffer, Malformed}
+use Rattle.client_core.specs.declared.hearing.Heard.{Heard}
 use Rattle.client_core.specs.declared.reading.Said.{Said}
 use Rattle.client_core.specs.declared.reading.Said.TheVariants as said
 use Rattle.client_core.specs.declared.request.OutRequest.{OutRequest}
 use Rattle.client_core.specs.declared.request.Sent.{Sent}
 use Rattle.client_core.specs.declared.request.Sent.TheVariants as sent
 use Rattle.client_core.specs.declared.state.Change.{Change}
-use Rattle.client_core.specs.declared.state.Change.TheVariants.{Keep, Choose, Renew, Forget, Pass, PassTo, Fail}
+use Rattle.client_core.specs.declared.state.Change.TheVariants.{Keep, Choose, Begin, Renew, Pass, PassTo, Fail}
 use Rattle.client_core.specs.declared.state.Chosen.{Chosen}
 use Rattle.client_core.specs.declared.state.Chosen.TheVariants as chosen
 use Rattle.client_core.specs.declared.state.DigestChoice.{DigestChoice}
@@ -31,17 +31,9 @@ use Rattle.client_core.specs.declared.state.State.{State}
 use Rattle.client_core.specs.declared.state.User.{User}
 use Rattle.client_core.specs.Choices.{choice_of, offered}
 use Rattle.client_core.specs.Digests.{secret_with}
-
-abbrev pub conclusion : Outcome → Change → Conclusion
-conclusion outcome change = record { outcome = outcome; change = change }
-
--- what was sent is refused
-abbrev pub refusal : Conclusion
-refusal = conclusion Refused Forget
-
--- the server's proof is wrong
-abbrev pub wrong : Conclusion
-wrong = conclusion WrongProof Fail
+use Rattle.client_core.specs.Hearings.{continued}
+use Rattle.client_core.specs.Outcomes.{conclusion, malformed, refusal, wrong}
+use Rattle.client_core.specs.ScramConclusions.{after_again, after_first, again_told, final_told, is_of_scram, reuse_of}
 
 -- ---- a challenge to a request without credentials
 
@@ -53,18 +45,27 @@ begun c = record { challenge = c; nonce = Some c.nonce; prime = None }
 abbrev pub digest_chosen : List Item → ℕ → Option Chosen
 digest_chosen items at = option_map (λ c. chosen.Digest (begun c)) (option_and_then offered (slice_get items at))
 
+-- nothing is answered
+abbrev pub no_offer : List Item → Conclusion
+no_offer items = conclusion (NoOffer (length items)) Keep
+
+abbrev pub digest_choosing : List Item → Option Chosen → Conclusion
+digest_choosing items (Some found) = conclusion Retry (Choose found)
+digest_choosing items None = no_offer items
+
+abbrev pub scram_choosing : List Item → ℕ → Option Item → Conclusion
+scram_choosing items moment (Some item) =
+    conclusion Retry (Begin (record { realm = value_of (codes "realm") (params_of item.rest) }) (reuse_of moment (params_of item.rest)))
+scram_choosing items moment None = no_offer items
+
 -- the challenge that is answered
-abbrev pub chosen_of : List Item → Choice → Option Chosen
-chosen_of items choice.Nothing = None
-chosen_of items (choice.Digest at) = digest_chosen items at
-chosen_of items (choice.Scram at) = None
+abbrev pub choosing : List Item → ℕ → Choice → Conclusion
+choosing items moment choice.Nothing = no_offer items
+choosing items moment (choice.Digest at) = digest_choosing items (digest_chosen items at)
+choosing items moment (choice.Scram at) = scram_choosing items moment (slice_get items at)
 
-abbrev pub choosing : ℕ → Option Chosen → Conclusion
-choosing count (Some found) = conclusion Retry (Choose found)
-choosing count None = conclusion (NoOffer count) Keep
-
-abbrev pub chosen_from : List Item → Conclusion
-chosen_from items = choosing (length items) (chosen_of items (choice_of items))
+abbrev pub chosen_from : List Item → ℕ → Conclusion
+chosen_from items moment = choosing items moment (choice_of items)
 
 -- ---- a challenge in answer to credentials of Digest
 
@@ -91,18 +92,19 @@ renewing None = refusal
 
 abbrev pub after_choice : ℕ → List Item → Chosen → Conclusion
 after_choice stale items chosen.Nothing = refusal
+after_choice stale items (chosen.Scram choice) = refusal
 after_choice stale items (chosen.Digest choice) = if nat_lt stale 2 then renewing (renewed choice.challenge items) else refusal
 
 -- of stale answers in a row two are taken
 abbrev pub after_digest : State → List Item → Conclusion
 after_digest s items = after_choice s.stale items s.choice
 
-abbrev pub challenged : State → Sent → List Item → Conclusion
-challenged s sent.Nothing items = chosen_from items
-challenged s (sent.Digest item) items = after_digest s items
-challenged s (sent.ScramFirst item) items = refusal
-challenged s (sent.ScramFinal item) items = refusal
-challenged s (sent.ScramAgain item) items = refusal
+abbrev pub challenged : State → Sent → List Item → ℕ → Heard → Conclusion
+challenged s sent.Nothing items moment told = chosen_from items moment
+challenged s (sent.Digest item) items moment told = after_digest s items
+challenged s (sent.ScramFirst item) items moment told = after_first s (continued items) told
+challenged s (sent.ScramFinal item) items moment told = refusal
+challenged s (sent.ScramAgain item) items moment told = after_again moment (find is_of_scram items)
 
 -- ---- a response that is no challenge
 
@@ -147,21 +149,22 @@ told_of user body (Err error) i = wrong
 
 abbrev pub digest_informed : User → List ℕ → Result Credentials FieldError → Result Info FieldError → Conclusion
 digest_informed user body c (Ok i) = told_of user body c i
-digest_informed user body c (Err error) = conclusion (Malformed 0) Keep
+digest_informed user body c (Err error) = malformed
 
 -- the server says this of what was sent
-abbrev pub informed : User → OutRequest → Sent → Response → List Param → Conclusion
-informed user request (sent.Digest item) response params =
-    digest_informed user (answered_body request response) (credentials_of (params_of item.rest)) (info_of params)
-informed user request sent.Nothing response params = wrong
-informed user request (sent.ScramFirst item) response params = wrong
-informed user request (sent.ScramFinal item) response params = wrong
-informed user request (sent.ScramAgain item) response params = wrong
+abbrev pub informed : State → OutRequest → Sent → Response → List Param → Heard → Conclusion
+informed s request (sent.Digest item) response params heard =
+    digest_informed s.user (answered_body request response) (credentials_of (params_of item.rest)) (info_of params)
+informed s request sent.Nothing response params heard = wrong
+informed s request (sent.ScramFirst item) response params heard = wrong
+informed s request (sent.ScramFinal item) response params heard = final_told s params heard
+informed s request (sent.ScramAgain item) response params heard = again_told s params heard
 
 -- ---- all cases
 
-abbrev pub concluded : State → OutRequest → Sent → Response → Said → Conclusion
-concluded s request what response (said.Malformed at) = conclusion (Malformed at) Keep
-concluded s request what response (said.Challenge items) = challenged s what items
-concluded s request what response said.Nothing = unproved what
-concluded s request what response (said.Info params) = informed s.user request what response params
+-- A field out of grammar changes nothing.
+abbrev pub concluded : State → OutRequest → Sent → Response → ℕ → Said → Heard → Conclusion
+concluded s request what response moment (said.Malformed at) heard = conclusion (Malformed at) Keep
+concluded s request what response moment (said.Challenge items) heard = challenged s what items moment heard
+concluded s request what response moment said.Nothing heard = unproved what
+concluded s request what response moment (said.Info params) heard = informed s request what response params heard

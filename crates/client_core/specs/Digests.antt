@@ -16,7 +16,7 @@ use Rattle.client_core.specs.declared.request.OutRequest.{OutRequest}
 use Rattle.client_core.specs.declared.request.Sent.{Sent}
 use Rattle.client_core.specs.declared.request.Sent.TheVariants as sent
 use Rattle.client_core.specs.declared.state.Chosen.{Chosen}
-use Rattle.client_core.specs.declared.state.Chosen.TheVariants.{Nothing, Digest}
+use Rattle.client_core.specs.declared.state.Chosen.TheVariants.{Nothing, Digest, Scram}
 use Rattle.client_core.specs.declared.state.DigestChoice.{DigestChoice}
 use Rattle.client_core.specs.declared.state.State.{State}
 use Rattle.client_core.specs.declared.state.User.{User}
@@ -87,6 +87,7 @@ given_by_nonce s request words choice (Some nonce) =
 -- what is given, and what the client keeps behind it
 abbrev pub digest_given : State → OutRequest → List ℕ → Chosen → Sent × State
 digest_given s request words Nothing = (sent.Nothing, s)
+digest_given s request words (Scram choice) = (sent.Nothing, s)
 digest_given s request words (Digest choice) = given_by_nonce s request words choice choice.nonce
 
 -- ---- want of memory

@@ -1,7 +1,7 @@
 -- What holds of every client.
-use Rattle.std.specs.Prelude.{◌≡◌, ◌≢◌, ◌⊎◌, ◌↔◌, ℕ, List, [], ◌∷◌, Option, Some, None, Result, Ok}
+use Rattle.std.specs.Prelude.{◌≡◌, ◌≢◌, ◌⊎◌, ◌↔◌, ℕ, List, [], ◌∷◌, codes, Option, Some, None, Result, Ok}
 use Rattle.std.specs.List.{join_with_byte}
-use Rattle.auth_grammar.specs.Names.{params_of}
+use Rattle.auth_grammar.specs.Names.{params_of, value_of}
 use Rattle.auth_grammar.specs.declared.items.Item.{Item}
 use Rattle.auth_grammar.specs.declared.items.Param.{Param}
 use Rattle.auth_hash.specs.declared.algorithm.Qop.{Qop}
@@ -9,17 +9,23 @@ use Rattle.digest_fields.specs.Credentials.{Credentials, credentials_of}
 use Rattle.digest_fields.specs.Field.{given}
 use Rattle.digest_fields.specs.Info.{Info, info_of}
 use Rattle.digest_fields.specs.declared.field.FieldName.TheVariants as field
+use Rattle.scram_text.specs.ServerFinals.{SpellsServerFinal, signed}
 use Rattle.http_wire.specs.declared.response.Response.{Response}
 use Rattle.client_core.specs.declared.outcome.Outcome.{Outcome}
 use Rattle.client_core.specs.declared.outcome.Outcome.TheVariants.{Mutual}
 use Rattle.client_core.specs.declared.request.OutRequest.{OutRequest}
 use Rattle.client_core.specs.declared.request.Sent.{Sent}
 use Rattle.client_core.specs.declared.request.Sent.TheVariants as sent
+use Rattle.client_core.specs.declared.state.Exchange.{Exchange}
+use Rattle.client_core.specs.declared.state.Progress.TheVariants.{Answered, Finished}
 use Rattle.client_core.specs.declared.state.State.{State}
 use Rattle.client_core.specs.declared.state.User.{User}
 use Rattle.client_core.specs.Clients.{Concludes}
 use Rattle.client_core.specs.Conclusions.{answered_body, right_value}
-use Rattle.client_core.specs.Digests.{DrewAtMost, digest_given}
+use Rattle.client_core.specs.Digests.{DrewAtMost}
+use Rattle.client_core.specs.Givings.{given as given_of}
+use Rattle.client_core.specs.Hearings.{decoded}
+use Rattle.client_core.specs.ScramConclusions.{signature_for}
 use Rattle.client_core.specs.Readings.{SpellsInfo, challenge_status, info_field, lines_of}
 
 -- ---- when a server has proved itself
@@ -40,13 +46,35 @@ pub record ProvesDigest (user : User) (request : OutRequest) (item : Item) (resp
   pub cnonce : IsAbsentOr info.cnonce credentials.cnonce
   pub nc : IsAbsentOr info.nc credentials.nc
 
+-- The parameters have in `data`, as base64, a message with the signature of RFC 5802 section 3 for this exchange with
+-- this nonce, which only who knows the user's keys can make.
+pub record ProvesScram (x : Exchange) (nonce : List ℕ) (params : List Param) : Type 0 where
+  pub message : List ℕ
+  pub text : List ℕ
+  pub there : value_of (codes "data") params ≡ Some message
+  pub decodes : decoded message ≡ Some text
+  pub signature : SpellsServerFinal text (signed (signature_for x nonce))
+
+-- the same of the exchange that waits for it
+pub record ProvesFinal (s : State) (params : List Param) : Type 0 where
+  pub exchange : Exchange
+  pub sent : s.progress ≡ Answered exchange
+  pub proof : ProvesScram exchange exchange.nonce params
+
+-- the same of the exchange that was used again
+pub record ProvesAgain (s : State) (params : List Param) : Type 0 where
+  pub exchange : Exchange
+  pub nonce : List ℕ
+  pub sent : s.progress ≡ Finished exchange nonce
+  pub proof : ProvesScram exchange nonce params
+
 -- the parameters are the server's proof for what was sent
-abbrev pub IsProof : User → OutRequest → Sent → Response → List Param → Type 0
-IsProof user request (sent.Digest item) response params = ProvesDigest user request item response params
-IsProof user request sent.Nothing response params = ⊥
-IsProof user request (sent.ScramFirst item) response params = ⊥
-IsProof user request (sent.ScramFinal item) response params = ⊥
-IsProof user request (sent.ScramAgain item) response params = ⊥
+abbrev pub IsProof : State → OutRequest → Sent → Response → List Param → Type 0
+IsProof s request (sent.Digest item) response params = ProvesDigest s.user request item response params
+IsProof s request sent.Nothing response params = ⊥
+IsProof s request (sent.ScramFirst item) response params = ⊥
+IsProof s request (sent.ScramFinal item) response params = ProvesFinal s params
+IsProof s request (sent.ScramAgain item) response params = ProvesAgain s params
 
 -- a response that is no challenge carries the server's proof for what was sent
 pub record Proves (s : State) (request : OutRequest) (what : Sent) (response : Response) : Type 0 where
@@ -54,26 +82,26 @@ pub record Proves (s : State) (request : OutRequest) (what : Sent) (response : R
   pub params : List Param
   pub there : lines_of response (info_field s.role) ≢ []
   pub spelled : SpellsInfo (join_with_byte 44 (lines_of response (info_field s.role))) params
-  pub proof : IsProof s.user request what response params
+  pub proof : IsProof s request what response params
 
 -- Mutual is told exactly where the server has proved itself.
 abbrev pub MutualExactly : Type 0
-MutualExactly = (s t : State) (request : OutRequest) (what : Sent) (response : Response) (outcome : Outcome)
-    → Concludes s request what response outcome t → (outcome ≡ Mutual) ↔ Proves s request what response
+MutualExactly = (s t : State) (request : OutRequest) (what : Sent) (response : Response) (moment : ℕ) (outcome : Outcome)
+    → Concludes s request what response moment outcome t → (outcome ≡ Mutual) ↔ Proves s request what response
 
 -- ---- what is never given twice
 
 -- what a call leaves of a client
 pub data Call : Type 0 where
   -- it gave these credentials
-  Gave : (request : OutRequest) (words : List ℕ) (what : Sent) → Call
+  Gave : (request : OutRequest) (moment : ℕ) (words : List ℕ) (what : Sent) → Call
   -- it gave none, for want of memory
   Failed : Call
   -- it asked for none, as `on_response` and `forget`
   Other : Call
 
 abbrev pub Leaves : State → Call → State → Type 0
-Leaves s (Gave request words what) t = digest_given s request words s.choice ≡ (what, t)
+Leaves s (Gave request moment words what) t = given_of s request moment words ≡ (what, t)
 Leaves s Failed t = DrewAtMost s t
 Leaves s Other t = t.drawn ≡ s.drawn
 
@@ -92,11 +120,11 @@ use_in params = (given field.Nonce params, given field.Nc params)
 -- those of the credentials that were given
 abbrev pub uses : List Call → List Use
 uses [] = []
-uses (Gave request words (sent.Digest item) ∷ calls) = use_in (params_of item.rest) ∷ uses calls
-uses (Gave request words sent.Nothing ∷ calls) = uses calls
-uses (Gave request words (sent.ScramFirst item) ∷ calls) = uses calls
-uses (Gave request words (sent.ScramFinal item) ∷ calls) = uses calls
-uses (Gave request words (sent.ScramAgain item) ∷ calls) = uses calls
+uses (Gave request moment words (sent.Digest item) ∷ calls) = use_in (params_of item.rest) ∷ uses calls
+uses (Gave request moment words sent.Nothing ∷ calls) = uses calls
+uses (Gave request moment words (sent.ScramFirst item) ∷ calls) = uses calls
+uses (Gave request moment words (sent.ScramFinal item) ∷ calls) = uses calls
+uses (Gave request moment words (sent.ScramAgain item) ∷ calls) = uses calls
 uses (Failed ∷ calls) = uses calls
 uses (Other ∷ calls) = uses calls
 

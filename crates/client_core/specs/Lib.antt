@@ -6,5 +6,10 @@ pub mod Conclusions
 pub mod Counts
 pub mod Digests
 pub mod Domains
+pub mod Givings
+pub mod Hearings
 pub mod Laws
+pub mod Outcomes
 pub mod Readings
+pub mod ScramConclusions
+pub mod Scrams

@@ -1,7 +1,7 @@
 //! Which challenge is answered.
 ghost use Rattle.std.specs.Prelude.{◌≡◌, ◌<◌, ◌^◌, IfOk, IfSome, is_some, length, position};
 ghost use Rattle.auth_grammar.specs.Names.{has_repeat as has_repeat_in, params_of};
-ghost use Rattle.client_core.specs.Choices.{choice_of, is_digest, offered};
+ghost use Rattle.client_core.specs.Choices.{choice_of, is_digest, is_scram, offered};
 
 use auth_grammar::{Item, ItemList, OutOfMemory, Rest, has_repeat, same_name, value_of};
 use auth_hash::Algorithm;
@@ -19,14 +19,17 @@ pub enum Choice {
     Scram { at: u32 },
 }
 
-/// The item that a client answers (RFC 7616 section 3.7): of those of Digest whose parameters are accepted SHA-512-256
-/// goes before SHA-256 before MD5. A session variant ranks as its hash, and of equals the first counts. Items of other
-/// schemes are passed over. It takes no memory.
+/// The item that a client answers (RFC 7616 section 3.7): of those whose parameters are accepted SCRAM-SHA-256 goes
+/// before Digest, and Digest by SHA-512-256 before SHA-256 before MD5. A session variant ranks as its hash, and of
+/// equals the first counts. It takes no memory.
 pub(crate) fn choose(items: &ItemList) -> Choice
     requires { length items.now < 2 ^ 32 }
     ensures { result ≡ choice_of items.now }
 {
     let items = items.as_slice();
+    if let Some(at) = scram_at(items) {
+        return Choice::Scram { at: at as u32 };
+    }
     if let Some(at) = digest_at(items, Algorithm::Sha512t256) {
         return Choice::Digest { at: at as u32 };
     }
@@ -39,12 +42,29 @@ pub(crate) fn choose(items: &ItemList) -> Choice
     Choice::Nothing
 }
 
+/// Where the first item of SCRAM-SHA-256 stands that begins an exchange.
+fn scram_at(items: &[Item]) -> Option<usize>
+    ensures place { result ≡ position is_scram items.now }
+    ensures within { IfSome result (λ at. at < length items.now) }
+{
+    items.iter().position(|item| is_scram(item))
+}
+
 /// Where the first item of Digest by that hash stands whose parameters are accepted.
 fn digest_at(items: &[Item], alg: Algorithm) -> Option<usize>
     ensures place { result ≡ position (is_digest alg) items.now }
     ensures within { IfSome result (λ at. at < length items.now) }
 {
     items.iter().position(|item| is_digest(item, alg))
+}
+
+/// Whether the item begins an exchange of SCRAM-SHA-256 (RFC 7804 section 5): it has no `sid`, and no name twice.
+fn is_scram(item: &Item) -> bool
+    ensures { result ≡ is_scram item.now }
+{
+    same_name(item.scheme.bytes(), b"SCRAM-SHA-256")
+        && !has_doubles(&item.rest)
+        && value_of(item.rest.params(), b"sid").is_none()
 }
 
 /// Whether the item is of Digest by that hash, and its parameters are accepted.

@@ -4,14 +4,16 @@ ghost use Rattle.std.specs.List.{list_all};
 ghost use Rattle.auth_grammar.specs.Plain.{is_plain_name, is_printable};
 ghost use Rattle.client_core.specs.Choices.{choice_of};
 ghost use Rattle.client_core.specs.Clients.{Concludes, fits, forgotten, is_password, new_state};
-ghost use Rattle.client_core.specs.Digests.{DrewAtMost, digest_given};
+ghost use Rattle.client_core.specs.Digests.{DrewAtMost};
+ghost use Rattle.client_core.specs.Givings.{given};
 
 use crate::choice::{Choice, choose};
 use crate::counts::Counts;
+use crate::hearing::heard_in;
 use crate::outcome::{ClientError, Outcome};
 use crate::reading::said_by;
 use crate::request::{OutRequest, Sent};
-use crate::state::{Chosen, State, User};
+use crate::state::{Chosen, Progress, State, User};
 use auth_grammar::{ItemList, Octets, OutOfMemory, Role, is_plain_name, is_printable};
 use http_wire::Response;
 use std::alloc::Global;
@@ -64,6 +66,8 @@ impl Client {
             role,
             user,
             choice: Chosen::Nothing,
+            progress: Progress::Nothing,
+            reuse: None,
             stale: 0,
             drawn: Counts::new(alloc),
         };
@@ -83,14 +87,14 @@ impl Client {
     pub fn credentials_for(
         &mut self,
         request: &OutRequest,
-        _moment: u64,
+        moment: u64,
         words: &[u8; 16],
     ) -> Result<Sent, OutOfMemory>
         requires { 1 ≤ length request.now.target }
-        ensures ok { IfOk result (λ sent. digest_given self.old request.now words.now self.old.choice ≡ (sent, self.new)) }
+        ensures ok { IfOk result (λ sent. given self.old request.now moment words.now ≡ (sent, self.new)) }
         ensures err { OnErr result (DrewAtMost self.old self.new) }
     {
-        self.state.give_digest(self.alloc, request, words)
+        self.state.give(self.alloc, request, moment, words)
     }
 
     /// What the response to a request means that was sent with these credentials. Where there is no memory, and after
@@ -100,24 +104,27 @@ impl Client {
         request: &OutRequest,
         sent: &Sent,
         response: &Response,
-        _moment: u64,
+        moment: u64,
     ) -> Result<Outcome, OutOfMemory>
-        ensures ok { IfOk result (λ outcome. Concludes self.old request.now sent.now response.now outcome self.new) }
+        ensures ok { IfOk result (λ outcome. Concludes self.old request.now sent.now response.now moment outcome self.new) }
         ensures err { OnErr result (self.new ≡ self.old) }
     {
         let said = said_by(self.alloc, self.state.role, sent, response)?;
+        let heard = heard_in(self.alloc, sent, &said)?;
         let conclusion = self
             .state
-            .conclude(self.alloc, request, sent, response, &said)?;
-        self.state.apply(conclusion.change);
+            .conclude(self.alloc, request, sent, response, moment, &said, &heard)?;
+        self.state.apply(self.alloc, conclusion.change);
         Ok(conclusion.outcome)
     }
 
-    /// Forgets what is answered with: challenge and nonce. The counts that were drawn stay drawn.
+    /// Forgets what is answered with: challenge, nonce and exchange. The counts that were drawn stay drawn.
     pub fn forget(&mut self)
         ensures { self.new ≡ forgotten self.old }
     {
         self.state.choice = Chosen::Nothing;
+        self.state.progress = Progress::Nothing;
+        self.state.reuse = None;
     }
 }
 

@@ -1,17 +1,21 @@
 //! What a response means, by what its fields say.
-ghost use Rattle.std.specs.Prelude.{◌≡◌, ◌<◌, ◌^◌, IfOk, bytes_eq, drop, length, option_map};
+ghost use Rattle.std.specs.Prelude.{◌≡◌, ◌<◌, ◌^◌, IfOk, bytes_eq, length, option_map, slice_get};
+ghost use Rattle.auth_grammar.specs.Names.{params_of};
 ghost use Rattle.auth_hash.specs.Qop.{qop_name};
-ghost use Rattle.client_core.specs.Choices.{choice_of};
+ghost use Rattle.digest_fields.specs.Credentials.{credentials_of};
+ghost use Rattle.digest_fields.specs.Info.{info_of};
 ghost use Rattle.client_core.specs.Readings.{IsFew};
-ghost use Rattle.client_core.specs.Conclusions.{absent_or, after_digest, agrees, answered_body, begun, challenged, chosen_from, chosen_of, concluded, digest_chosen, informed, is_renewal, mutual_change, renewed, right_value, same_kind, told, unproved};
+ghost use Rattle.client_core.specs.Conclusions.{absent_or, after_digest, agrees, answered_body, begun, challenged, chosen_from, concluded, digest_choosing, digest_chosen, digest_informed, informed, is_renewal, mutual_change, no_offer, renewed, right_value, same_kind, scram_choosing, told, unproved};
 
 use crate::choice::{Choice, choose, offered};
 use crate::digest::secret_with;
+use crate::hearing::Heard;
 use crate::outcome::Outcome;
 use crate::reading::Said;
 use crate::request::{OutRequest, Sent};
-use crate::state::{Change, Chosen, DigestChoice, State, User};
-use auth_grammar::{Item, ItemList, Octets, OutOfMemory, ParamList};
+use crate::scram_conclusion::{after_again, after_first, again_told, final_told, reuse_of};
+use crate::state::{Change, Chosen, DigestChoice, ScramChoice, State, User};
+use auth_grammar::{Item, ItemList, Octets, OutOfMemory, ParamList, value_of};
 use auth_hash::Qop;
 use digest_fields::{DigestChallenge, DigestCredentials, DigestInfo, FieldError, Kind, Nc};
 use digest_formulas::rspauth;
@@ -29,7 +33,7 @@ pub(crate) struct Conclusion {
 }
 
 /// A conclusion.
-fn conclude(outcome: Outcome, change: Change) -> Conclusion
+pub(crate) fn conclude(outcome: Outcome, change: Change) -> Conclusion
     ensures { result ≡ record { outcome = outcome; change = change } }
 {
     Conclusion { outcome, change }
@@ -43,16 +47,18 @@ impl State {
         request: &OutRequest,
         sent: &Sent,
         response: &Response,
+        moment: u64,
         said: &Said,
+        heard: &Heard,
     ) -> Result<Conclusion, OutOfMemory>
         requires { IsFew said.now }
-        ensures { IfOk result (λ c. c ≡ concluded self.now request.now sent.now response.now said.now) }
+        ensures { IfOk result (λ c. c ≡ concluded self.now request.now sent.now response.now moment said.now heard.now) }
     {
         match said {
             Said::Malformed { at } => Ok(conclude(Outcome::Malformed { at: *at }, Change::Keep)),
-            Said::Challenge(items) => challenged(alloc, self, sent, items),
+            Said::Challenge(items) => challenged(alloc, self, sent, items, moment, heard),
             Said::Nothing => Ok(unproved(sent)),
-            Said::Info(params) => informed(alloc, &self.user, request, sent, response, params),
+            Said::Info(params) => informed(alloc, self, request, sent, response, params, heard),
         }
     }
 }
@@ -63,40 +69,68 @@ fn challenged(
     state: &State,
     sent: &Sent,
     items: &ItemList,
+    moment: u64,
+    heard: &Heard,
 ) -> Result<Conclusion, OutOfMemory>
     requires { length items.now < 2 ^ 32 }
-    ensures { IfOk result (λ c. c ≡ challenged state.now sent.now items.now) }
+    ensures { IfOk result (λ c. c ≡ challenged state.now sent.now items.now moment heard.now) }
 {
     match sent {
-        Sent::Nothing => chosen_from(alloc, items),
+        Sent::Nothing => chosen_from(alloc, items, moment),
         Sent::Digest(_) => after_digest(alloc, state, items),
-        _ => Ok(conclude(Outcome::Refused, Change::Forget)),
+        Sent::ScramFirst(_) => after_first(state, items, heard),
+        Sent::ScramFinal(_) => Ok(conclude(Outcome::Refused, Change::Forget)),
+        Sent::ScramAgain(_) => after_again(items, moment),
     }
 }
 
 /// What a challenge means to a request without credentials.
-fn chosen_from(alloc: Global, items: &ItemList) -> Result<Conclusion, OutOfMemory>
+fn chosen_from(alloc: Global, items: &ItemList, moment: u64) -> Result<Conclusion, OutOfMemory>
     requires { length items.now < 2 ^ 32 }
-    ensures { IfOk result (λ c. c ≡ chosen_from items.now) }
+    ensures { IfOk result (λ c. c ≡ chosen_from items.now moment) }
 {
-    match chosen_of(alloc, items)? {
-        Some(chosen) => Ok(conclude(Outcome::Retry, Change::Choose(chosen))),
-        None => {
-            let kinds = items.len() as u32;
-            Ok(conclude(Outcome::NoOffer { kinds }, Change::Keep))
-        }
+    match choose(items) {
+        Choice::Digest { at } => digest_choosing(alloc, items, at as usize),
+        Choice::Scram { at } => scram_choosing(items, moment, at as usize),
+        Choice::Nothing => Ok(no_offer(items)),
     }
 }
 
-/// The challenge that is answered.
-fn chosen_of(alloc: Global, items: &ItemList) -> Result<Option<Chosen>, OutOfMemory>
+/// Nothing is answered.
+fn no_offer(items: &ItemList) -> Conclusion
     requires { length items.now < 2 ^ 32 }
-    ensures { IfOk result (λ chosen. chosen ≡ chosen_of items.now (choice_of items.now)) }
+    ensures { result ≡ no_offer items.now }
 {
-    match choose(items) {
-        Choice::Digest { at } => digest_at(alloc, items, at as usize),
-        _ => Ok(None),
+    let kinds = items.len() as u32;
+    conclude(Outcome::NoOffer { kinds }, Change::Keep)
+}
+
+/// The challenge of Digest at that place is answered.
+fn digest_choosing(alloc: Global, items: &ItemList, at: usize) -> Result<Conclusion, OutOfMemory>
+    requires { length items.now < 2 ^ 32 }
+    ensures { IfOk result (λ c. c ≡ digest_choosing items.now (digest_chosen items.now at)) }
+{
+    match digest_at(alloc, items, at)? {
+        Some(chosen) => Ok(conclude(Outcome::Retry, Change::Choose(chosen))),
+        None => Ok(no_offer(items)),
     }
+}
+
+/// The challenge of SCRAM-SHA-256 at that place is answered.
+fn scram_choosing(items: &ItemList, moment: u64, at: usize) -> Result<Conclusion, OutOfMemory>
+    requires { length items.now < 2 ^ 32 }
+    ensures { IfOk result (λ c. c ≡ scram_choosing items.now moment (slice_get items.now at)) }
+{
+    let Some(item) = items.get(at) else {
+        return Ok(no_offer(items));
+    };
+    let params = item.rest.params();
+    let realm = match value_of(params, b"realm") {
+        Some(realm) => Some(realm.copy()?),
+        None => None,
+    };
+    let reuse = reuse_of(params, moment)?;
+    Ok(conclude(Outcome::Retry, Change::Begin(ScramChoice { realm }, reuse)))
 }
 
 /// The challenge of Digest at that place.
@@ -188,17 +222,36 @@ fn unproved(sent: &Sent) -> Conclusion
 /// What a response that is no challenge means, where the server says this of what was sent.
 fn informed(
     alloc: Global,
-    user: &User,
+    state: &State,
     request: &OutRequest,
     sent: &Sent,
     response: &Response,
     params: &ParamList,
+    heard: &Heard,
 ) -> Result<Conclusion, OutOfMemory>
-    ensures { IfOk result (λ c. c ≡ informed user.now request.now sent.now response.now params.now) }
+    ensures { IfOk result (λ c. c ≡ informed state.now request.now sent.now response.now params.now heard.now) }
 {
-    let Sent::Digest(item) = sent else {
-        return Ok(conclude(Outcome::WrongProof, Change::Fail));
-    };
+    match sent {
+        Sent::Digest(item) => {
+            let body = answered_body(request, response);
+            digest_informed(alloc, &state.user, body, item, params)
+        }
+        Sent::ScramFinal(_) => final_told(alloc, state, params.as_slice(), heard),
+        Sent::ScramAgain(_) => again_told(alloc, state, params.as_slice(), heard),
+        Sent::Nothing | Sent::ScramFirst(_) => Ok(conclude(Outcome::WrongProof, Change::Fail)),
+    }
+}
+
+/// What it means in answer to credentials of Digest.
+fn digest_informed(
+    alloc: Global,
+    user: &User,
+    body: &[u8],
+    item: &Item,
+    params: &ParamList,
+) -> Result<Conclusion, OutOfMemory>
+    ensures { IfOk result (λ c. c ≡ digest_informed user.now body.now (credentials_of (params_of item.now.rest)) (info_of params.now)) }
+{
     let info = match DigestInfo::from_params(alloc, params) {
         Ok(info) => info,
         Err(FieldError::OutOfMemory) => return Err(OutOfMemory),
@@ -209,7 +262,7 @@ fn informed(
         Err(FieldError::OutOfMemory) => return Err(OutOfMemory),
         Err(_) => return Ok(conclude(Outcome::WrongProof, Change::Fail)),
     };
-    Ok(told(user, answered_body(request, response), &credentials, info))
+    Ok(told(user, body, &credentials, info))
 }
 
 /// The body that the server's value covers: that of a response to HEAD counts as empty.

@@ -11,10 +11,14 @@ mod conclusion;
 mod counts;
 mod digest;
 mod domain;
+mod giving;
+mod hearing;
 mod laws;
 mod outcome;
 mod reading;
 mod request;
+mod scram;
+mod scram_conclusion;
 mod state;
 #[cfg(test)]
 mod tests;

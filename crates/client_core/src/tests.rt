@@ -53,7 +53,36 @@ new
 /a/x | - | 401 | WWW-Authenticate: Digest realm="http-auth@example.org", domain="/a http://example.org/b", nonce="AQAAAAAAAAAAAAAAAAAAAAAAAAAAAAAAAAAA", algorithm=SHA-256, qop="auth" | Retry
 /a/x | Digest username="Mufasa", realm="http-auth@example.org", nonce="AQAAAAAAAAAAAAAAAAAAAAAAAAAAAAAAAAAA", uri="/a/x", response="182cd371a1db962b485d4855d08a963222032ab031628419e03a7a2d7c5123ed", algorithm=SHA-256, cnonce="AAAAAAAAAAAAAAAAAAAAAA==", qop=auth, nc=00000001 | 200 | Authentication-Info: qop=auth, rspauth="26d90a776f4a96cfaacc9f4c4fff25e21df15b85564cef45b3e3045532f3aec0", cnonce="AAAAAAAAAAAAAAAAAAAAAA==", nc=00000001 | Mutual
 /c | - | 200 | A: b | OneWay
-/b | Digest username="Mufasa", realm="http-auth@example.org", nonce="AQAAAAAAAAAAAAAAAAAAAAAAAAAAAAAAAAAA", uri="/b", response="d68cb2bd4c8c6cbe525c5facf52a54ba21f1d2020e40806f99107179ad9f97b2", algorithm=SHA-256, cnonce="AAAAAAAAAAAAAAAAAAAAAA==", qop=auth, nc=00000002 | 200 | Authentication-Info: qop=auth, rspauth="ff43d0c707e2e38ce4521efa6afda16fbca911ecd72fe904c61de34189696772", cnonce="AAAAAAAAAAAAAAAAAAAAAA==", nc=00000002 | Mutual"#;
+/b | Digest username="Mufasa", realm="http-auth@example.org", nonce="AQAAAAAAAAAAAAAAAAAAAAAAAAAAAAAAAAAA", uri="/b", response="d68cb2bd4c8c6cbe525c5facf52a54ba21f1d2020e40806f99107179ad9f97b2", algorithm=SHA-256, cnonce="AAAAAAAAAAAAAAAAAAAAAA==", qop=auth, nc=00000002 | 200 | Authentication-Info: qop=auth, rspauth="ff43d0c707e2e38ce4521efa6afda16fbca911ecd72fe904c61de34189696772", cnonce="AAAAAAAAAAAAAAAAAAAAAA==", nc=00000002 | Mutual
+new
+/dir/index.html | - | 401 | WWW-Authenticate: Digest realm="http-auth@example.org", nonce="AQAAAAAAAAAAAAAAAAAAAAAAAAAAAAAAAAAA", algorithm=SHA-256, qop="auth" & WWW-Authenticate: SCRAM-SHA-256 realm="r", sr="AQAAAAAAAAAAAAAAAAAAAAAAAAAAAAAAAAAA", ttl=300 | Retry
+/dir/index.html | SCRAM-SHA-256 realm="r", data="biwsbj1NdWZhc2Escj1BQUFBQUFBQUFBQUFBQUFBQUFBQUFBPT0=" | 401 | WWW-Authenticate: SCRAM-SHA-256 sid="S", data="cj14QUFBQUFBQUFBQUFBQUFBQUFBQUFBQT09JWh2WURwV1VhMlJhVENBZnV4RklsailoTmxGJGswLHM9VzIyWmFKMFNOWTdzb0VzVUVqYjZnUT09LGk9NDA5Ng==" | Malformed { at: 0 }
+/dir/index.html | SCRAM-SHA-256 realm="r", data="biwsbj1NdWZhc2Escj1BQUFBQUFBQUFBQUFBQUFBQUFBQUFBPT0=" | 401 | WWW-Authenticate: SCRAM-SHA-256 sid="S", data="cj1BQUFBQUFBQUFBQUFBQUFBQUFBQUFBPT0scz1XMjJaYUowU05ZN3NvRXNVRWpiNmdRPT0saT00MDk2" | Malformed { at: 0 }
+/dir/index.html | SCRAM-SHA-256 realm="r", data="biwsbj1NdWZhc2Escj1BQUFBQUFBQUFBQUFBQUFBQUFBQUFBPT0=" | 401 | WWW-Authenticate: SCRAM-SHA-256 sid="S", data="cj1BQUFBQUFBQUFBQUFBQUFBQUFBQUFBPT0laHZZRHBXVWEyUmFUQ0FmdXhGSWxqKWhObEYkazAscz1XMjJaYUowU05ZN3NvRXNVRWpiNmdRPT0saT00MDk1" | Malformed { at: 0 }
+/dir/index.html | SCRAM-SHA-256 realm="r", data="biwsbj1NdWZhc2Escj1BQUFBQUFBQUFBQUFBQUFBQUFBQUFBPT0=" | 401 | WWW-Authenticate: SCRAM-SHA-256 sid="S", data="cj1BQUFBQUFBQUFBQUFBQUFBQUFBQUFBPT0laHZZRHBXVWEyUmFUQ0FmdXhGSWxqKWhObEYkazAscz1XMjJaYUowU05ZN3NvRXNVRWpiNmdRPT0saT0xMDAwMDAx" | Malformed { at: 0 }
+/dir/index.html | SCRAM-SHA-256 realm="r", data="biwsbj1NdWZhc2Escj1BQUFBQUFBQUFBQUFBQUFBQUFBQUFBPT0=" | 401 | WWW-Authenticate: SCRAM-SHA-256 sid="S", data="==" | Malformed { at: 0 }
+/dir/index.html | SCRAM-SHA-256 realm="r", data="biwsbj1NdWZhc2Escj1BQUFBQUFBQUFBQUFBQUFBQUFBQUFBPT0=" | 401 | WWW-Authenticate: SCRAM-SHA-256 realm="r", sr="AQAAAAAAAAAAAAAAAAAAAAAAAAAAAAAAAAAA", ttl=300 | Refused
+/dir/index.html | SCRAM-SHA-256 realm="r", data="biwsbj1NdWZhc2Escj1BQUFBQUFBQUFBQUFBQUFBQUFBQUFBPT0=" | 200 | A: b | OneWay
+/dir/index.html | SCRAM-SHA-256 realm="r", data="biwsbj1NdWZhc2Escj1BQUFBQUFBQUFBQUFBQUFBQUFBQUFBPT0=" | 401 | WWW-Authenticate: Basic a="b" & WWW-Authenticate: SCRAM-SHA-256 sid="S", data="cj1BQUFBQUFBQUFBQUFBQUFBQUFBQUFBPT0laHZZRHBXVWEyUmFUQ0FmdXhGSWxqKWhObEYkazAscz1XMjJaYUowU05ZN3NvRXNVRWpiNmdRPT0saT00MDk2" | Retry
+/dir/index.html | SCRAM-SHA-256 sid="S", data="Yz1iaXdzLHI9QUFBQUFBQUFBQUFBQUFBQUFBQUFBQT09JWh2WURwV1VhMlJhVENBZnV4RklsailoTmxGJGswLHA9dWpjNk10eW9WUG9QQWJNcVNVR3U3M0txSDJidHZRbzkvWUs5TkVYaVQrWT0=" | 200 | Authentication-Info: sid="S", data="dj1Wa0pEbDc0Rk1ZZkRhTmlPNFZGbkM3alBEeDZxQmhKTnBuajFTR2xvMnVZPQ==" | Mutual
+/dir/index.html | SCRAM-SHA-256 sid="S", data="Yz1iaXdzLHI9QUFBQUFBQUFBQUFBQUFBQUFBQUFBQT09MUFRQUFBQUFBQUFBQUFBQUFBQUFBQUFBQUFBQUFBQUFBQUFBQSxwPUNhWWNqODh1Y3RaQXRHNDh0NlBaNU1LZXUzZEdEVlhsbGsrb285eVBQdTA9" | 200 | Authentication-Info: sid="S", data="dj1ndHViZXJvSVdSYzdFSlZ2MzZWdmx4Q3JXU1ExdTN5ZzVIa2dRWkg4N0JBPQ==" | Mutual
+/dir/index.html | SCRAM-SHA-256 sid="S", data="Yz1iaXdzLHI9QUFBQUFBQUFBQUFBQUFBQUFBQUFBQT09MkFRQUFBQUFBQUFBQUFBQUFBQUFBQUFBQUFBQUFBQUFBQUFBQSxwPVpEcGpjYlk2RzJ0aExIU2xFR2ZETkZzRXQyUHdGb0ZiV0l4U1A2OHpTR289" | 200 | A: b | OneWay
+/dir/index.html | SCRAM-SHA-256 sid="S", data="Yz1iaXdzLHI9QUFBQUFBQUFBQUFBQUFBQUFBQUFBQT09M0FRQUFBQUFBQUFBQUFBQUFBQUFBQUFBQUFBQUFBQUFBQUFBQSxwPVlRWU43WHV2c3F0N2tBTGt3OEJBa0FCS0FqbTZQSlpGQzU5Z2V4MHNwaVU9" | 401 | WWW-Authenticate: SCRAM-SHA-256 realm="r", sr="AQAAAAAAAAAAAAEAAAAAAAAAAAAAAAAAAAAA", ttl=000000009, stale=true | Retry
+/dir/index.html | SCRAM-SHA-256 realm="r", data="biwsbj1NdWZhc2Escj1BQUFBQUFBQUFBQUFBQUFBQUFBQUFBPT0=" | 401 | WWW-Authenticate: SCRAM-SHA-256 sid="T", data="cj1BQUFBQUFBQUFBQUFBQUFBQUFBQUFBPT0laHZZRHBXVWEyUmFUQ0FmdXhGSWxqKWhObEYkazAscz1XMjJaYUowU05ZN3NvRXNVRWpiNmdRPT0saT00MDk2" | Retry
+/dir/index.html | SCRAM-SHA-256 sid="T", data="Yz1iaXdzLHI9QUFBQUFBQUFBQUFBQUFBQUFBQUFBQT09JWh2WURwV1VhMlJhVENBZnV4RklsailoTmxGJGswLHA9dWpjNk10eW9WUG9QQWJNcVNVR3U3M0txSDJidHZRbzkvWUs5TkVYaVQrWT0=" | 200 | Authentication-Info: sid="T", data="dj1Wa0pEbDc0Rk1ZZkRhTmlPNFZGbkM3alBEeDZxQmhKTnBuajFTR2xvMnVZPQ==" | Mutual
+/dir/index.html | SCRAM-SHA-256 sid="T", data="Yz1iaXdzLHI9QUFBQUFBQUFBQUFBQUFBQUFBQUFBQT09MUFRQUFBQUFBQUFBQUFBRUFBQUFBQUFBQUFBQUFBQUFBQUFBQSxwPVVSenZSMTU4QUlSTGoxNDJMZEdFMVRLMlNOL2JzRUI4L25qeGtzVnM0a289" | 200 | Authentication-Info: sid="T", data="dj15NUpKdVJGa3M0MEhYRTJnZzBmMitVWTh4dDR4cW1EL0xreExUZWJCeGFrPQ==" | Mutual
+/dir/index.html | SCRAM-SHA-256 sid="T", data="Yz1iaXdzLHI9QUFBQUFBQUFBQUFBQUFBQUFBQUFBQT09MkFRQUFBQUFBQUFBQUFBRUFBQUFBQUFBQUFBQUFBQUFBQUFBQSxwPU5uMm9GVDVnQ01XUHJ6T2NLTlU0a2VnOUtrWk1mNUErTDBzWTN0cWJCWGM9" | 200 | Authentication-Info: sid="S", data="dj15NUpKdVJGa3M0MEhYRTJnZzBmMitVWTh4dDR4cW1EL0xreExUZWJCeGFrPQ==" | WrongProof
+/dir/index.html | SCRAM-SHA-256 realm="r", data="biwsbj1NdWZhc2Escj1BQUFBQUFBQUFBQUFBQUFBQUFBQUFBPT0=" | 401 | WWW-Authenticate: SCRAM-SHA-256 sid="S", data="cj1BQUFBQUFBQUFBQUFBQUFBQUFBQUFBPT0laHZZRHBXVWEyUmFUQ0FmdXhGSWxqKWhObEYkazAscz1XMjJaYUowU05ZN3NvRXNVRWpiNmdRPT0saT00MDk2" | Retry
+/dir/index.html | SCRAM-SHA-256 sid="S", data="Yz1iaXdzLHI9QUFBQUFBQUFBQUFBQUFBQUFBQUFBQT09JWh2WURwV1VhMlJhVENBZnV4RklsailoTmxGJGswLHA9dWpjNk10eW9WUG9QQWJNcVNVR3U3M0txSDJidHZRbzkvWUs5TkVYaVQrWT0=" | 200 | Authentication-Info: sid="S", data="dj1Wa0pEbDc0Rk1ZZkRhTmlPNFZGbkM3alBEeDZxQmhKTnBuajFTR2xvMnVjPQ==" | WrongProof
+/dir/index.html | SCRAM-SHA-256 realm="r", data="biwsbj1NdWZhc2Escj1BQUFBQUFBQUFBQUFBQUFBQUFBQUFBPT0=" | 401 | WWW-Authenticate: SCRAM-SHA-256 sid="S", data="cj1BQUFBQUFBQUFBQUFBQUFBQUFBQUFBPT0laHZZRHBXVWEyUmFUQ0FmdXhGSWxqKWhObEYkazAscz1XMjJaYUowU05ZN3NvRXNVRWpiNmdRPT0saT00MDk2" | Retry
+/dir/index.html | SCRAM-SHA-256 sid="S", data="Yz1iaXdzLHI9QUFBQUFBQUFBQUFBQUFBQUFBQUFBQT09JWh2WURwV1VhMlJhVENBZnV4RklsailoTmxGJGswLHA9dWpjNk10eW9WUG9QQWJNcVNVR3U3M0txSDJidHZRbzkvWUs5TkVYaVQrWT0=" | 200 | Authentication-Info: data="ZT1vdGhlci1lcnJvcg==" | WrongProof
+/dir/index.html | SCRAM-SHA-256 realm="r", data="biwsbj1NdWZhc2Escj1BQUFBQUFBQUFBQUFBQUFBQUFBQUFBPT0=" | 401 | WWW-Authenticate: SCRAM-SHA-256 sid="S", data="cj1BQUFBQUFBQUFBQUFBQUFBQUFBQUFBPT0laHZZRHBXVWEyUmFUQ0FmdXhGSWxqKWhObEYkazAscz1XMjJaYUowU05ZN3NvRXNVRWpiNmdRPT0saT00MDk2" | Retry
+/dir/index.html | SCRAM-SHA-256 sid="S", data="Yz1iaXdzLHI9QUFBQUFBQUFBQUFBQUFBQUFBQUFBQT09JWh2WURwV1VhMlJhVENBZnV4RklsailoTmxGJGswLHA9dWpjNk10eW9WUG9QQWJNcVNVR3U3M0txSDJidHZRbzkvWUs5TkVYaVQrWT0=" | 401 | WWW-Authenticate: SCRAM-SHA-256 realm="r", sr="AQAAAAAAAAAAAAAAAAAAAAAAAAAAAAAAAAAA", ttl=300 | Refused
+new
+/dir/index.html | - | 401 | WWW-Authenticate: SCRAM-SHA-256 realm="r", sr="AQAAAAAAAAAAAAAAAAAAAAAAAAAAAAAAAAAA", ttl=0 | Retry
+/dir/index.html | SCRAM-SHA-256 realm="r", data="biwsbj1NdWZhc2Escj1BQUFBQUFBQUFBQUFBQUFBQUFBQUFBPT0=" | 401 | WWW-Authenticate: SCRAM-SHA-256 sid="S", data="cj1BQUFBQUFBQUFBQUFBQUFBQUFBQUFBPT0laHZZRHBXVWEyUmFUQ0FmdXhGSWxqKWhObEYkazAscz1XMjJaYUowU05ZN3NvRXNVRWpiNmdRPT0saT00MDk2" | Retry
+/dir/index.html | SCRAM-SHA-256 sid="S", data="Yz1iaXdzLHI9QUFBQUFBQUFBQUFBQUFBQUFBQUFBQT09JWh2WURwV1VhMlJhVENBZnV4RklsailoTmxGJGswLHA9dWpjNk10eW9WUG9QQWJNcVNVR3U3M0txSDJidHZRbzkvWUs5TkVYaVQrWT0=" | 200 | Authentication-Info: sid="S", data="dj1Wa0pEbDc0Rk1ZZkRhTmlPNFZGbkM3alBEeDZxQmhKTnBuajFTR2xvMnVZPQ==" | Mutual
+/dir/index.html | SCRAM-SHA-256 realm="r", data="biwsbj1NdWZhc2Escj1BQUFBQUFBQUFBQUFBQUFBQUFBQUFBPT0=" | 401 | WWW-Authenticate: SCRAM-SHA-256 sid="S" | Refused"#;
 
 /// A challenge.
 const FIRST: &str =
@@ -105,8 +134,12 @@ fn response_of(alloc: Global, status: &str, lines: &str) -> Result<Response, Fai
 
 /// The credentials as they are written, or `-`.
 fn text_of(alloc: Global, sent: &Sent) -> Result<Octets, Fail> {
-    let Sent::Digest(item) = sent else {
-        return Ok(Octets::of(alloc, b"-")?);
+    let item = match sent {
+        Sent::Nothing => return Ok(Octets::of(alloc, b"-")?),
+        Sent::Digest(item)
+        | Sent::ScramFirst(item)
+        | Sent::ScramFinal(item)
+        | Sent::ScramAgain(item) => item,
     };
     let mut items = ItemList::new(alloc);
     items.push(item.clone()?)?;
