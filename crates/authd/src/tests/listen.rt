@@ -1,5 +1,5 @@
 //! `listen`: who is made for which words, how it ends, and the totals.
-ghost use Rattle.std.specs.Prelude.{◌≤◌, IfOk, vec_len};
+ghost use Rattle.std.specs.Prelude.{◌≡◌, ◌≤◌, IfOk, vec_len};
 ghost use Rattle.auth_io.specs.Memory.{IsUnused};
 
 use super::pipe::{bare_request, files_of, spaces_text, store_text};
