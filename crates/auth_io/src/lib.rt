@@ -13,6 +13,7 @@ mod files;
 mod memory;
 mod stream;
 mod words;
+mod writing;
 
 pub use accept::Accept;
 pub use adapters::{DiskFiles, OsWords, StdLink, SystemClock, TcpAccept, TcpDial, TcpLink};
@@ -25,6 +26,7 @@ pub use memory::{
 };
 pub use stream::{Failed, Link, Sink, Source, Wrote};
 pub use words::Words;
+pub use writing::{WriteError, send_all, write_all};
 
 #[cfg(test)]
 mod tests;

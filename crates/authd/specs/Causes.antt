@@ -1,4 +1,6 @@
 -- Why the program ends, by what a part of it answered.
+use Rattle.auth_io.specs.declared.writing.WriteError.{WriteError}
+use Rattle.auth_io.specs.declared.writing.WriteError.TheVariants as write_error
 use Rattle.connection_loop.specs.declared.served.ServeError.{ServeError}
 use Rattle.connection_loop.specs.declared.served.ServeError.TheVariants as served
 use Rattle.cred_store.specs.declared.error.StoreError.{StoreError}
@@ -9,6 +11,10 @@ use Rattle.authd.specs.declared.failure.Failure.{Failure}
 use Rattle.authd.specs.declared.failure.Failure.TheVariants as failure
 use Rattle.authd.specs.declared.failure.Fault.TheVariants as fault
 use Rattle.authd.specs.declared.failure.Refusal.TheVariants as refusal
+
+abbrev pub write_failure : WriteError → Failure
+write_failure write_error.Failed = failure.Fault fault.Write
+write_failure write_error.OutOfMemory = failure.OutOfMemory
 
 abbrev pub store_failure : StoreError → Failure
 store_failure (store.BadLine line why) = failure.Refused (refusal.StoreLine line)

@@ -4,6 +4,7 @@ ghost use Rattle.authd.specs.Endings.{line_of, numbered_line, refusal_line, stat
 
 use crate::printing::push_number;
 use auth_grammar::{Octets, OutOfMemory};
+use auth_io::WriteError;
 use connection_loop::ServeError;
 use cred_store::StoreError;
 use spaces_map::SpacesError;
@@ -68,6 +69,19 @@ impl From<OutOfMemory> for Failure {
 
     fn from(_error: OutOfMemory) -> Failure {
         Failure::OutOfMemory
+    }
+}
+
+impl From<WriteError> for Failure {
+    ghost use Rattle.authd.specs.Causes.{write_failure};
+
+    ghost from_gives = { λ error failure. failure ≡ write_failure error };
+
+    fn from(error: WriteError) -> Failure {
+        match error {
+            WriteError::Failed => Failure::Fault(Fault::Write),
+            WriteError::OutOfMemory => Failure::OutOfMemory,
+        }
     }
 }
 

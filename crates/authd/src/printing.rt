@@ -6,7 +6,7 @@ ghost use Rattle.authd.specs.Endings.{Tells, IsPrintFailure};
 
 use crate::failure::{Failure, Fault};
 use auth_grammar::{Octets, OutOfMemory};
-use auth_io::{Link, Sink, Wrote};
+use auth_io::{Link, Sink, WriteError, send_all, write_all};
 use itoa::Buffer;
 
 /// Writes all of the text to the link.
@@ -18,15 +18,7 @@ pub(crate) fn print<L: Link>(link: &mut L, text: &[u8]) -> Result<(), Failure>
     ensures read_faults { L.read_faults link.new ≡ L.read_faults link.old }
     ensures fault { result ≡ Err (Failure.Fault Fault.Write) → Rose (L.write_faults link.old) (L.write_faults link.new) }
 {
-    let mut at = 0;
-    while at < text.len() {
-        match link.write(&text[at..]) {
-            Wrote::Taken(count) => at += count,
-            Wrote::Failed => return Err(Failure::Fault(Fault::Write)),
-            Wrote::OutOfMemory => return Err(Failure::OutOfMemory),
-        }
-    }
-    Ok(())
+    Ok(send_all(link, text)?)
 }
 
 /// Writes all of the text, or as much as goes before a write fails.
@@ -34,15 +26,10 @@ pub(crate) fn tell<D: Sink>(diag: &mut D, text: &[u8]) -> Result<(), OutOfMemory
     ensures ok { OnOk result (Tells (D.written diag.old) (D.written diag.new) (D.faults diag.old) (D.faults diag.new) text.now) }
     ensures err { OnErr result ((n : ℕ) × Appends (D.written diag.old) (D.written diag.new) (take n text.now)) }
 {
-    let mut at = 0;
-    while at < text.len() {
-        match diag.write(&text[at..]) {
-            Wrote::Taken(count) => at += count,
-            Wrote::Failed => return Ok(()),
-            Wrote::OutOfMemory => return Err(OutOfMemory),
-        }
+    match write_all(diag, text) {
+        Ok(()) | Err(WriteError::Failed) => Ok(()),
+        Err(WriteError::OutOfMemory) => Err(OutOfMemory),
     }
-    Ok(())
 }
 
 /// Adds a number in decimal digits.

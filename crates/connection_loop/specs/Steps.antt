@@ -5,6 +5,8 @@ use Rattle.std.specs.List.{AllByRecursion}
 use Rattle.http_wire.specs.declared.request.Request.{Request}
 use Rattle.http_wire.specs.Requests.{Unfinished, Whole, Wrong, front, is_due}
 use Rattle.http_wire.specs.RequestFeed.{Held}
+use Rattle.auth_io.specs.declared.writing.WriteError.{WriteError}
+use Rattle.auth_io.specs.declared.writing.WriteError.TheVariants as write_error
 use Rattle.connection_loop.specs.Machine.{Machine, Incoming, Turn, Said, Lacks, turn, asks_in, output_in, state_in}
 use Rattle.connection_loop.specs.Session.{Session, Stop, Inside, Lacking, Supply, session, after, due_text, admits}
 use Rattle.connection_loop.specs.Account.{Account, LinkState, LinkPassed, asks_of, supply_of, add}
@@ -32,6 +34,11 @@ IsSendError WriteFault = ⊤
 IsSendError RandomFault = ⊥
 IsSendError (Worn calls) = ⊥
 IsSendError OutOfMemory = ⊤
+
+-- the loop's error for what kept a text from being written whole
+abbrev pub send_error : WriteError → ServeError
+send_error write_error.Failed = WriteFault
+send_error write_error.OutOfMemory = OutOfMemory
 
 -- a text was written whole, or the front of it
 abbrev pub SendsText : List ℕ → List ℕ → Result (Unit {0}) ServeError → Type 0

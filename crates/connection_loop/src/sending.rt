@@ -5,7 +5,7 @@ ghost use Rattle.auth_io.specs.Causes.{Rose};
 ghost use Rattle.connection_loop.specs.Steps.{IsSendError};
 
 use crate::served::ServeError;
-use auth_io::{Link, Wrote};
+use auth_io::{Link, send_all};
 
 /// Writes all of these bytes.
 pub fn write_all<L: Link>(link: &mut L, bytes: &[u8]) -> Result<(), ServeError>
@@ -20,13 +20,5 @@ pub fn write_all<L: Link>(link: &mut L, bytes: &[u8]) -> Result<(), ServeError>
     ensures later { L.write_faults link.old ≤ L.write_faults link.new }
     ensures fault { result ≡ Err ServeError.WriteFault → Rose (L.write_faults link.old) (L.write_faults link.new) }
 {
-    let mut at = 0;
-    while at < bytes.len() {
-        match link.write(&bytes[at..]) {
-            Wrote::Taken(n) => at += n,
-            Wrote::Failed => return Err(ServeError::WriteFault),
-            Wrote::OutOfMemory => return Err(ServeError::OutOfMemory),
-        }
-    }
-    Ok(())
+    Ok(send_all(link, bytes)?)
 }

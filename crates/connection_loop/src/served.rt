@@ -1,4 +1,5 @@
 //! How a connection was served.
+use auth_io::WriteError;
 use thiserror::Error;
 
 /// How a connection ended.
@@ -54,5 +55,19 @@ impl From<auth_grammar::OutOfMemory> for ServeError {
 
     fn from(_error: auth_grammar::OutOfMemory) -> ServeError {
         ServeError::OutOfMemory
+    }
+}
+
+impl From<WriteError> for ServeError {
+    ghost use Rattle.std.specs.Prelude.{◌≡◌};
+    ghost use Rattle.connection_loop.specs.Steps.{send_error};
+
+    ghost from_gives = { λ error serve_error. serve_error ≡ send_error error };
+
+    fn from(error: WriteError) -> ServeError {
+        match error {
+            WriteError::Failed => ServeError::WriteFault,
+            WriteError::OutOfMemory => ServeError::OutOfMemory,
+        }
     }
 }

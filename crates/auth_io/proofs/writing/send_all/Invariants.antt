@@ -1,15 +1,17 @@
 use Rattle.std.proofs.Common.{◌≡◌, ◌-◌, ◌≤◌, length, take}
 use Rattle.std.specs.Io.KnownBytes.{Appends}
-use Rattle.authd.proofs.printing.print.Given as goal
+use Rattle.auth_io.proofs.writing.send_all.Given as goal
 
 abbrev pub invariant-loop-at : goal.invariant-loop-at
 invariant-loop-at g l = record {
-  within : l.at ≤ length l.text;
-  wrote : Appends (g.L.Link.written l.initial.link) (g.L.Link.written l.link) (take l.at l.text);
+  within : l.at ≤ length l.bytes;
+  wrote : Appends (g.L.Link.written l.initial.link) (g.L.Link.written l.link) (take l.at l.bytes);
   left : g.L.Link.left l.link ≡ g.L.Link.left l.initial.link;
+  given : g.L.Link.given l.link ≡ g.L.Link.given l.initial.link;
+  reads : g.L.Link.reads l.link ≡ g.L.Link.reads l.initial.link;
   read_faults : g.L.Link.read_faults l.link ≡ g.L.Link.read_faults l.initial.link;
   write_faults : g.L.Link.write_faults l.link ≡ g.L.Link.write_faults l.initial.link;
 }
 
 abbrev pub decreases-loop-at : goal.decreases-loop-at
-decreases-loop-at g l = length l.text - l.at
+decreases-loop-at g l = length l.bytes - l.at

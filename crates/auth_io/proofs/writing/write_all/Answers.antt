@@ -2,11 +2,11 @@ use Rattle.std.proofs.Common.{◌∙◌, arith, length-drop}
 use Rattle.std.proofs.Math.Seq.{take-add}
 use Rattle.std.proofs.lemmas.List.{take_rest}
 use Rattle.auth_io.proofs.Passing.{Appends_trans}
-use Rattle.authd.proofs.printing.tell.Goals as goal
+use Rattle.auth_io.proofs.writing.write_all.Goals as goal
 
 pub loop-at-preserved : goal.loop-at-preserved
 loop-at-preserved g c = record {
-  within = omega (arith, length-drop c.loop-at.at c.args.text.now, c.in-Taken.ensures.some);
+  within = omega (arith, length-drop c.loop-at.at c.args.bytes.now, c.in-Taken.ensures.some);
   wrote = rw take-add (Appends_trans _ _ _ _ _ c.loop-at.invariant.wrote (rw take_rest at c.in-Taken.ensures.bytes));
   faults = c.in-Taken.ensures.cause.each ∙ c.loop-at.invariant.faults;
 }
