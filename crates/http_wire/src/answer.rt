@@ -3,7 +3,7 @@ ghost use Rattle.std.specs.Prelude.{◌≡◌, ◌++◌, ◌≤◌, OnOk, IfOk};
 ghost use Rattle.http_wire.specs.Answers.{continue_text, phrase_of, status_body, status_line, date_line, answer_length_line, body_of, answer_text};
 
 use crate::pair::PairList;
-use crate::text::{put, put_close, put_length, put_number, put_pairs};
+use crate::text::{put, put_close, put_length, put_number, put_pairs, with_room};
 use auth_grammar::{Octets, OutOfMemory};
 use httpdate::HttpDate;
 use std::alloc::Global;
@@ -115,7 +115,7 @@ pub fn write_answer(alloc: Global, answer: &Answer) -> Result<Octets, OutOfMemor
     requires high { answer.now.status ≤ 599 }
     ensures { IfOk result (λ text. text ≡ answer_text answer.now) }
 {
-    let mut out = Vec::new(alloc);
+    let mut out = with_room(alloc, answer.body.len())?;
     put_status(&mut out, answer.status)?;
     put_date(&mut out, answer.moment)?;
     put_pairs(&mut out, answer.lines.as_slice())?;

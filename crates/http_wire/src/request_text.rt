@@ -3,7 +3,7 @@ ghost use Rattle.std.specs.Prelude.{◌≡◌, ◌++◌, OnOk, IfOk};
 ghost use Rattle.http_wire.specs.RequestTexts.{request_line, host_line, request_length_line, request_text};
 
 use crate::pair::PairList;
-use crate::text::{put, put_close, put_length, put_pairs};
+use crate::text::{put, put_close, put_length, put_pairs, with_room};
 use auth_grammar::{Octets, OutOfMemory};
 use std::alloc::Global;
 
@@ -49,7 +49,7 @@ pub fn write_request(
 ) -> Result<Octets, OutOfMemory>
     ensures { IfOk result (λ text. text ≡ request_text method.now target.now host.now lines.now body.now) }
 {
-    let mut out = Vec::new(alloc);
+    let mut out = with_room(alloc, body.len())?;
     put_request_line(&mut out, method, target)?;
     put_host(&mut out, host)?;
     put_pairs(&mut out, lines.as_slice())?;

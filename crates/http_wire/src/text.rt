@@ -1,11 +1,22 @@
 //! Texts that are written piece by piece.
-ghost use Rattle.std.specs.Prelude.{◌≡◌, ◌++◌, OnOk, decimal};
+ghost use Rattle.std.specs.Prelude.{◌≡◌, ◌++◌, [], IfOk, OnOk, decimal};
 ghost use Rattle.std.specs.List.{flat_map};
 ghost use Rattle.http_wire.specs.FieldLines.{pair_line, length_line, close_line};
 
 use crate::pair::Pair;
 use auth_grammar::OutOfMemory;
 use itoa::Buffer;
+use std::alloc::Global;
+
+/// The bytes of a head for which a new text has room.
+const HEAD_ROOM: usize = 1024;
+
+/// An empty text that has room for a head and so many bytes of a body.
+pub(crate) fn with_room(alloc: Global, body: usize) -> Result<Vec<u8>, OutOfMemory>
+    ensures { IfOk result (λ text. text.items ≡ []) }
+{
+    Ok(Vec::with_capacity(alloc, body.saturating_add(HEAD_ROOM))?)
+}
 
 pub(crate) fn put(out: &mut Vec<u8>, bytes: &[u8]) -> Result<(), OutOfMemory>
     ensures { OnOk result (out.new.items ≡ out.old.items ++ bytes.now) }

@@ -3,6 +3,7 @@ use crate::challenges::items_of_challenges;
 use crate::requests::{body_in_pieces, target_by_bytes};
 use crate::responses::body_of_chunks;
 use crate::stores::entries_of_store;
+use crate::uses::used_counts;
 use auth_grammar::OutOfMemory;
 use std::alloc::{AllocError, AllocFailed, Global};
 
@@ -14,6 +15,7 @@ pub(crate) enum Job {
     Body,
     Head,
     Store,
+    Uses,
 }
 
 /// Why a job isn't done.
@@ -30,6 +32,12 @@ pub(crate) enum Failure {
 
 impl From<OutOfMemory> for Failure {
     fn from(_error: OutOfMemory) -> Failure {
+        Failure::OutOfMemory
+    }
+}
+
+impl From<nonce_shard::OutOfMemory> for Failure {
+    fn from(_error: nonce_shard::OutOfMemory) -> Failure {
         Failure::OutOfMemory
     }
 }
@@ -66,6 +74,7 @@ impl Job {
             b"body" => Some(Job::Body),
             b"head" => Some(Job::Head),
             b"store" => Some(Job::Store),
+            b"uses" => Some(Job::Uses),
             _ => None,
         }
     }
@@ -77,6 +86,7 @@ impl Job {
             Job::Response | Job::Body => "bytes of body",
             Job::Head => "bytes of target",
             Job::Store => "entries",
+            Job::Uses => "fresh counts",
         }
     }
 
@@ -88,6 +98,7 @@ impl Job {
             Job::Body => body_in_pieces(alloc, size),
             Job::Head => target_by_bytes(alloc, size),
             Job::Store => entries_of_store(alloc, size),
+            Job::Uses => used_counts(alloc, size),
         }
     }
 }

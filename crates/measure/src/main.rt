@@ -7,6 +7,7 @@ mod job;
 mod requests;
 mod responses;
 mod stores;
+mod uses;
 
 use crate::job::{Failure, Job};
 use std::alloc::Global;

@@ -1,0 +1,69 @@
+"""`authd listen` over a site, on a free port of the loopback."""
+import pathlib
+import re
+import socket
+import subprocess
+import sys
+import time
+
+import client
+
+SITE = pathlib.Path(__file__).resolve().parent
+PROGRAM = SITE.parent / "crates/authd/out/authd"
+SECONDS = 20
+
+
+def free_port():
+    with socket.create_server(("127.0.0.1", 0)) as listener:
+        return listener.getsockname()[1]
+
+
+def is_open(port):
+    """Whether somebody listens on the port, by the system's table of sockets."""
+    rows = pathlib.Path("/proc/net/tcp").read_text().splitlines()
+    return any(f"0100007F:{port:04X} 00000000:0000 0A" in row for row in rows)
+
+
+class Server:
+    """The program, for so many workers and connections a worker. It has to end by itself. Its words may stand behind
+    others, as those of valgrind."""
+
+    def __init__(self, workers, connections, site=SITE, before=()):
+        self.port = free_port()
+        words = ["listen", site / "store.txt", site / "spaces.txt", site / "www", f"127.0.0.1:{self.port}"]
+        self.program = subprocess.Popen(
+            [*before, PROGRAM, *words, str(workers), str(connections)],
+            stdout=subprocess.PIPE, stderr=subprocess.STDOUT, text=True,
+        )
+        for _ in range(100):
+            if is_open(self.port):
+                return
+            time.sleep(0.1)
+        sys.exit("failed: nobody listens")
+
+    def __enter__(self):
+        return self
+
+    def __exit__(self, *error):
+        if self.program.poll() is None:
+            self.program.kill()
+
+    def url(self):
+        return f"http://127.0.0.1:{self.port}{client.TARGET}"
+
+    def connect(self):
+        return socket.create_connection(("127.0.0.1", self.port), SECONDS)
+
+    def ask(self, line=""):
+        """One request on a connection of its own: the head of its reply."""
+        with self.connect() as connection, connection.makefile("rb") as stream:
+            connection.sendall(client.request(line))
+            return client.read_reply(stream)[0]
+
+    def totals(self):
+        """The numbers that the program tells at its end: calls, issued, admitted, repeated."""
+        said, _ = self.program.communicate(timeout=SECONDS)
+        found = re.fullmatch(r"calls (\d+) issued (\d+) admitted (\d+) repeated (\d+)\n", said)
+        if self.program.returncode or not found:
+            sys.exit(f"failed: status {self.program.returncode}, {said!r}")
+        return tuple(int(it) for it in found.groups())
