@@ -1,8 +1,9 @@
 //! The fields of a message (RFC 9110 section 5).
-ghost use Rattle.std.specs.Prelude.{◌≡◌, ◌≤◌, All, length, map, IfOk};
+ghost use Rattle.std.specs.Prelude.{◌≡◌, ◌≤◌, ◌<◌, ◌+◌, [], ◌∷◌, true, All, length, map, IfOk};
 ghost use Rattle.std.specs.List.{list_all};
 ghost use Rattle.auth_grammar.specs.Names.{same_name};
 ghost use Rattle.httparse.specs.Spans.{IsHeaderWithin, header_bytes};
+ghost use Rattle.http_header.specs.FieldName.{is_field_name};
 ghost use Rattle.http_header.specs.Token.{lowercase};
 ghost use Rattle.http_wire.specs.Fields.{pairs_size, fields_of, values_of};
 ghost use Rattle.http_wire.specs.Values.{AreValues, has_token};
@@ -37,6 +38,31 @@ impl Model for Fields {
 }
 
 impl Fields {
+    /// No fields.
+    pub fn new(alloc: Global) -> Fields
+        ensures { result ≡ [] }
+    {
+        Fields {
+            map: HeaderMap::<Octets>::empty(alloc),
+        }
+    }
+
+    /// The one field of this name, in lower case, with this value.
+    pub fn one(alloc: Global, name: &[u8], value: Octets) -> Result<Fields, OutOfMemory>
+        requires name { is_field_name name.now ≡ true }
+        requires size { length name.now + length value < 16384 }
+        ensures { IfOk result (λ fields. fields ≡ (lowercase name.now, value) ∷ []) }
+    {
+        let mut map = HeaderMap::<Octets>::empty(alloc);
+        let Ok(name) = HeaderName::from_bytes(alloc, name) else {
+            return Err(OutOfMemory);
+        };
+        let Ok(_) = map.append(name, value) else {
+            return Err(OutOfMemory);
+        };
+        Ok(Fields { map })
+    }
+
     // the fields at the spans of a head, or None where a name is too long for a field
     pub(crate) fn read(
         alloc: Global,
