@@ -9,11 +9,11 @@ use Rattle.auth_grammar.specs.Plain.{is_plain_byte, is_plain_name, is_printable}
 use Rattle.scram_text.specs.Bytes.{base64_text, is_nonce_byte, is_symbol, some_of}
 use Rattle.scram_text.proofs.Base64Groups.{no_bytes, symbol, symbol_at, tail_bytes, text_of_more, text_of_one, text_of_two, text_some}
 
-both : (a b : Bool) → a && b ≡ true → (a ≡ true) × (b ≡ true)
+pub both : (a b : Bool) → a && b ≡ true → (a ≡ true) × (b ≡ true)
 both true b e = (refl, e)
 both false b e = absurd (true≢false (sym e))
 
-both_true : (a b : Bool) → a ≡ true → b ≡ true → a && b ≡ true
+pub both_true : (a b : Bool) → a ≡ true → b ≡ true → a && b ≡ true
 both_true a b p q = rw (p, q) refl
 
 -- ---- the name
@@ -45,7 +45,7 @@ four : (a b c d : ℕ) (t : List ℕ) → is_nonce_byte a ≡ true → is_nonce_
     → list_all is_nonce_byte (a ∷ b ∷ c ∷ d ∷ t) ≡ true
 four a b c d t p q r s h = rw (p, q, r, s, h) refl
 
-nonce_text : (m : List ℕ) → IsBytes m → list_all is_nonce_byte (base64_text m) ≡ true
+pub nonce_text : (m : List ℕ) → IsBytes m → list_all is_nonce_byte (base64_text m) ≡ true
 nonce_text [] bytes = ap (λ (t : List ℕ). list_all is_nonce_byte t) (encode_of-nil standard)
 nonce_text (x ∷ []) bytes =
     let small = (tail_bytes x [] bytes).0 in

@@ -1,8 +1,11 @@
 pub mod CountLaws
 pub mod FirstMessages
 pub mod HashNames
+pub mod KeptLaws
 pub mod MutualLaws
 pub mod NamedKinds
 pub mod OnceLaws
+pub mod QuotableTexts
 pub mod SaidLaws
 pub mod ScramProofs
+pub mod WritingLaws

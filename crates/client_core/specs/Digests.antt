@@ -1,5 +1,5 @@
 -- Credentials of Digest (RFC 7616 section 3.4).
-use Rattle.std.specs.Prelude.{◌≡◌, ◌⊎◌, ℕ, ◌+◌, ◌-◌, ◌^◌, nat_lt, List, Option, Some, None, Bool, ◌&&◌, if◌then◌else◌}
+use Rattle.std.specs.Prelude.{◌≡◌, ◌⊎◌, ℕ, ◌+◌, ◌-◌, ◌^◌, nat_lt, List, Option, Some, None, is_some, Bool, false, ◌&&◌, if◌then◌else◌}
 use Rattle.auth_hash.specs.declared.algorithm.Qop.{Qop}
 use Rattle.auth_hash.specs.declared.algorithm.Qop.TheVariants.{Auth, AuthInt}
 use Rattle.auth_grammar.specs.declared.items.Role.{Role}
@@ -89,6 +89,17 @@ abbrev pub digest_given : State → OutRequest → List ℕ → Chosen → Sent 
 digest_given s request words Nothing = (sent.Nothing, s)
 digest_given s request words (Scram choice) = (sent.Nothing, s)
 digest_given s request words (Digest choice) = given_by_nonce s request words choice choice.nonce
+
+-- ---- whether there is a nonce
+
+abbrev pub has_nonce_in : Chosen → Bool
+has_nonce_in Nothing = false
+has_nonce_in (Digest choice) = is_some choice.nonce
+has_nonce_in (Scram choice) = false
+
+-- the client has a nonce of Digest
+abbrev pub has_nonce : State → Bool
+has_nonce s = has_nonce_in s.choice
 
 -- ---- want of memory
 

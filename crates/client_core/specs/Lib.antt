@@ -13,3 +13,4 @@ pub mod Outcomes
 pub mod Readings
 pub mod ScramConclusions
 pub mod Scrams
+pub mod Writings

@@ -2,10 +2,12 @@
 ghost use Rattle.std.specs.Prelude.{◌≡◌, ◌≤◌, ◌<◌, ◌⊎◌, ◌^◌, ◌&&◌, true, false, length, IfErr, IfOk, OnErr, nat_le};
 ghost use Rattle.std.specs.List.{list_all};
 ghost use Rattle.auth_grammar.specs.Plain.{is_plain_name, is_printable};
+ghost use Rattle.auth_grammar.specs.Valid.{is_quotable_text};
 ghost use Rattle.client_core.specs.Choices.{choice_of};
 ghost use Rattle.client_core.specs.Clients.{Concludes, fits, forgotten, is_password, new_state};
-ghost use Rattle.client_core.specs.Digests.{DrewAtMost};
+ghost use Rattle.client_core.specs.Digests.{DrewAtMost, has_nonce};
 ghost use Rattle.client_core.specs.Givings.{given};
+ghost use Rattle.client_core.specs.Writings.{is_valid_sent};
 
 use crate::choice::{Choice, choose};
 use crate::counts::Counts;
@@ -32,13 +34,17 @@ pub struct Client {
 impl Model for Client {
     ghost use Rattle.std.specs.Prelude.{◌≡◌, true};
     ghost use Rattle.auth_grammar.specs.Plain.{is_plain_name};
+    ghost use Rattle.client_core.specs.Writings.{is_quotable_state};
     ghost use Rattle.client_core.specs.declared.state.State.{State};
 
     ghost Value = { State };
 
     ghost view = { λ c. c.state };
 
-    ghost invariant = { λ c. is_plain_name c.state.user.name ≡ true };
+    ghost invariant = { λ c. record {
+      name : is_plain_name c.state.user.name ≡ true;
+      quotable : is_quotable_state c.state ≡ true;
+    } };
 }
 
 impl Client {
@@ -82,6 +88,16 @@ impl Client {
         choose(items)
     }
 
+    /// Whether the client has a nonce of Digest, whose next count goes with a request that its domain lets pass.
+    pub fn has_nonce(&self) -> bool
+        ensures { result ≡ has_nonce self.now }
+    {
+        match &self.state.choice {
+            Chosen::Digest(choice) => choice.nonce.is_some(),
+            Chosen::Nothing | Chosen::Scram(_) => false,
+        }
+    }
+
     /// The credentials for a request (RFC 7616 section 3.4), by 16 random bytes. No nonce is given with a count that was
     /// given before. Where there is no memory the client is as it was, but that a count that was drawn isn't drawn again.
     pub fn credentials_for(
@@ -92,6 +108,8 @@ impl Client {
     ) -> Result<Sent, OutOfMemory>
         requires { 1 ≤ length request.now.target }
         ensures ok { IfOk result (λ sent. given self.old request.now moment words.now ≡ (sent, self.new)) }
+        // For a target of bytes that a quoted string can hold (RFC 9110 section 5.6.4), an item that is given can be written.
+        ensures valid { IfOk result (λ sent. is_quotable_text request.now.target ≡ true → is_valid_sent sent ≡ true) }
         ensures err { OnErr result (DrewAtMost self.old self.new) }
     {
         self.state.give(self.alloc, request, moment, words)

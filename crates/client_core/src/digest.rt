@@ -1,9 +1,11 @@
 //! Credentials of Digest.
-ghost use Rattle.std.specs.Prelude.{◌≡◌, ◌⊎◌, ◌+◌, ◌≤◌, ◌<◌, ◌^◌, true, length, IfOk, OnOk, OnErr};
+ghost use Rattle.std.specs.Prelude.{◌≡◌, ◌⊎◌, ◌+◌, ◌≤◌, ◌<◌, ◌^◌, ◌&&◌, true, length, IfOk, OnOk, OnErr};
 ghost use Rattle.auth_grammar.specs.Plain.{is_plain_name};
+ghost use Rattle.auth_grammar.specs.Valid.{is_quotable_text, is_valid};
 ghost use Rattle.digest_fields.specs.Credentials.{IsCredentials, credentials_item, sent_name};
 ghost use Rattle.digest_fields.specs.Name.{IsName};
 ghost use Rattle.client_core.specs.Counts.{count_of, with_count};
+ghost use Rattle.client_core.specs.Writings.{AreQuotable, is_quotable, is_quotable_challenge, is_quotable_draw, is_quotable_state, is_valid_sent};
 ghost use Rattle.client_core.specs.Digests.{DrewAtMost, can_use, credentials_with, digest_given, next_draw, qop_of, secret_with, user_name};
 
 use crate::cnonce::cnonce_of;
@@ -35,9 +37,12 @@ impl State {
     ) -> Result<Sent, OutOfMemory>
         requires name { is_plain_name self.old.user.name ≡ true }
         requires target { 1 ≤ length request.now.target }
+        requires quotable { is_quotable_state self.old ≡ true }
         ensures ok { IfOk result (λ sent. digest_given self.old request.now words.now self.old.choice ≡ (sent, self.new)) }
         ensures err { OnErr result (DrewAtMost self.old self.new) }
         ensures user { self.new.user ≡ self.old.user }
+        ensures quotable { is_quotable_state self.new ≡ true }
+        ensures valid { IfOk result (λ sent. is_quotable_text request.now.target ≡ true → is_valid_sent sent ≡ true) }
     {
         let Chosen::Digest(choice) = &mut self.choice else {
             return Ok(Sent::Nothing);
@@ -80,6 +85,7 @@ fn next_draw(
 ) -> Result<Draw, OutOfMemory>
     requires { count_of drawn.old nonce.now + 1 < 2 ^ 32 }
     ensures ok { IfOk result (λ draw. draw ≡ next_draw drawn.old choice.now nonce.now words.now) }
+    ensures quotable { IfOk result (λ draw. (is_quotable_text nonce.now && is_quotable choice.now.prime) ≡ true → is_quotable_draw draw ≡ true) }
     ensures drawn { OnOk result (drawn.new ≡ with_count drawn.old nonce.now (count_of drawn.old nonce.now + 1)) }
     ensures err { OnErr result (drawn.new ≡ drawn.old) }
 {
@@ -103,7 +109,9 @@ fn item_with(
     requires name { is_plain_name user.now.name ≡ true }
     requires count { 1 ≤ draw.now.count }
     requires target { 1 ≤ length request.now.target }
-    ensures { IfOk result (λ item. item ≡ credentials_item (credentials_with user.now challenge.now draw.now request.now)) }
+    ensures item { IfOk result (λ item. item ≡ credentials_item (credentials_with user.now challenge.now draw.now request.now)) }
+    ensures valid { IfOk result (λ item. (is_quotable_challenge challenge.now && is_quotable_draw draw.now) ≡ true
+        → is_quotable_text request.now.target ≡ true → is_valid item ≡ true) }
 {
     let credentials = credentials_with(alloc, user, challenge, draw, request)?;
     credentials.to_item(alloc)
@@ -120,13 +128,12 @@ fn credentials_with(
     requires name { is_plain_name user.now.name ≡ true }
     requires count { 1 ≤ draw.now.count }
     requires target { 1 ≤ length request.now.target }
-    ensures { IfOk result (λ c. c ≡ credentials_with user.now challenge.now draw.now request.now) }
+    ensures credentials { IfOk result (λ c. c ≡ credentials_with user.now challenge.now draw.now request.now) }
+    ensures quotable { IfOk result (λ c. (is_quotable_challenge challenge.now && is_quotable_draw draw.now) ≡ true
+        → is_quotable_text request.now.target ≡ true → AreQuotable c) }
 {
     let response = response_with(user, challenge, draw, request);
-    let opaque = match &challenge.opaque {
-        Some(opaque) => Some(opaque.copy()?),
-        None => None,
-    };
+    let opaque = copy_of(&challenge.opaque)?;
     Ok(DigestCredentials {
         user: user_name(alloc, user, challenge)?,
         realm: challenge.realm.copy()?,
@@ -139,6 +146,16 @@ fn credentials_with(
         qop: qop_of(challenge),
         nc: Nc::of(draw.count),
     })
+}
+
+/// A copy of a text, where there is one.
+fn copy_of(text: &Option<Octets>) -> Result<Option<Octets>, OutOfMemory>
+    ensures { IfOk result (λ copy. copy ≡ text.now) }
+{
+    match text {
+        Some(text) => Ok(Some(text.copy()?)),
+        None => Ok(None),
+    }
 }
 
 /// The quality of protection that is taken: `auth` where it is offered.

@@ -1,8 +1,10 @@
 //! Which credentials go with a request.
-ghost use Rattle.std.specs.Prelude.{◌≡◌, ◌≤◌, true, length, option_map, IfNone, IfOk, OnErr};
+ghost use Rattle.std.specs.Prelude.{◌≡◌, ◌≤◌, true, length, option_map, IfNone, IfOk, IfSome, OnErr};
 ghost use Rattle.auth_grammar.specs.Plain.{is_plain_name};
+ghost use Rattle.auth_grammar.specs.Valid.{is_quotable_text};
 ghost use Rattle.client_core.specs.Digests.{DrewAtMost};
-ghost use Rattle.client_core.specs.Givings.{again_given, first_given, given};
+ghost use Rattle.client_core.specs.Givings.{again_given, by_choice, first_given, given};
+ghost use Rattle.client_core.specs.Writings.{is_quotable_state, is_valid_sent};
 
 use crate::request::{OutRequest, Sent};
 use crate::scram::{again_nonce, can_reuse, final_item, first_item, first_of};
@@ -22,9 +24,12 @@ impl State {
     ) -> Result<Sent, OutOfMemory>
         requires name { is_plain_name self.old.user.name ≡ true }
         requires target { 1 ≤ length request.now.target }
+        requires quotable { is_quotable_state self.old ≡ true }
         ensures ok { IfOk result (λ sent. given self.old request.now moment words.now ≡ (sent, self.new)) }
         ensures err { OnErr result (DrewAtMost self.old self.new) }
         ensures user { self.new.user ≡ self.old.user }
+        ensures quotable { is_quotable_state self.new ≡ true }
+        ensures valid { IfOk result (λ sent. is_quotable_text request.now.target ≡ true → is_valid_sent sent ≡ true) }
     {
         if let Progress::Answered(exchange) = &self.progress {
             let item = final_item(alloc, exchange, exchange.nonce.bytes())?;
@@ -33,6 +38,25 @@ impl State {
         if let Some(sent) = self.give_again(alloc, moment, words)? {
             return Ok(sent);
         }
+        self.give_chosen(alloc, request, words)
+    }
+
+    /// What the challenge takes that was chosen.
+    fn give_chosen(
+        &mut self,
+        alloc: Global,
+        request: &OutRequest,
+        words: &[u8; 16],
+    ) -> Result<Sent, OutOfMemory>
+        requires name { is_plain_name self.old.user.name ≡ true }
+        requires target { 1 ≤ length request.now.target }
+        requires quotable { is_quotable_state self.old ≡ true }
+        ensures ok { IfOk result (λ sent. by_choice self.old request.now words.now self.old.choice ≡ (sent, self.new)) }
+        ensures err { OnErr result (DrewAtMost self.old self.new) }
+        ensures user { self.new.user ≡ self.old.user }
+        ensures quotable { is_quotable_state self.new ≡ true }
+        ensures valid { IfOk result (λ sent. is_quotable_text request.now.target ≡ true → is_valid_sent sent ≡ true) }
+    {
         match &self.choice {
             Chosen::Scram(_) => self.give_first(alloc, words),
             _ => self.give_digest(alloc, request, words),
@@ -46,10 +70,13 @@ impl State {
         moment: u64,
         words: &[u8; 16],
     ) -> Result<Option<Sent>, OutOfMemory>
+        requires { is_quotable_state self.old ≡ true }
         ensures ok { IfOk result (λ found. again_given self.old moment words.now self.old.progress self.old.reuse ≡ option_map (λ sent. (sent, self.new)) found) }
         ensures none { IfOk result (λ found. IfNone found (self.new ≡ self.old)) }
         ensures err { OnErr result (DrewAtMost self.old self.new) }
         ensures user { self.new.user ≡ self.old.user }
+        ensures quotable { is_quotable_state self.new ≡ true }
+        ensures valid { IfOk result (λ found. IfSome found (λ sent. is_valid_sent sent ≡ true)) }
     {
         let Progress::Finished(exchange, last) = &mut self.progress else {
             return Ok(None);
@@ -69,10 +96,13 @@ impl State {
 
     /// The client's first message, where SCRAM-SHA-256 was chosen.
     fn give_first(&mut self, alloc: Global, words: &[u8; 16]) -> Result<Sent, OutOfMemory>
-        requires { is_plain_name self.old.user.name ≡ true }
+        requires name { is_plain_name self.old.user.name ≡ true }
+        requires quotable { is_quotable_state self.old ≡ true }
         ensures ok { IfOk result (λ sent. first_given self.old words.now self.old.choice ≡ (sent, self.new)) }
         ensures err { OnErr result (self.new ≡ self.old) }
         ensures user { self.new.user ≡ self.old.user }
+        ensures quotable { is_quotable_state self.new ≡ true }
+        ensures valid { IfOk result (λ sent. is_valid_sent sent ≡ true) }
     {
         let Chosen::Scram(choice) = &self.choice else {
             return Ok(Sent::Nothing);

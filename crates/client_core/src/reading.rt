@@ -1,6 +1,7 @@
 //! What the fields of a response say.
 ghost use Rattle.std.specs.Prelude.{◌≡◌, IfOk};
 ghost use Rattle.std.specs.List.{join_with_byte};
+ghost use Rattle.client_core.specs.Writings.{IsWritten};
 ghost use Rattle.client_core.specs.Readings.{IsFew, Says, SaysInfo, SaysItems, challenge_field, challenge_status, info_field, is_provable, lines_of};
 
 use crate::request::Sent;
@@ -57,6 +58,7 @@ fn info_field(role: Role) -> &'static [u8]
 fn read_items(alloc: Global, lines: &OctetsList) -> Result<Said, OutOfMemory>
     ensures says { IfOk result (λ said. SaysItems (join_with_byte 44 lines.now) said) }
     ensures few { IfOk result IsFew }
+    ensures written { IfOk result IsWritten }
 {
     match read_challenges(alloc, lines) {
         Ok(items) => {
@@ -76,6 +78,7 @@ fn read_items(alloc: Global, lines: &OctetsList) -> Result<Said, OutOfMemory>
 fn read_info(alloc: Global, lines: &OctetsList) -> Result<Said, OutOfMemory>
     ensures says { IfOk result (λ said. SaysInfo lines.now said) }
     ensures few { IfOk result IsFew }
+    ensures written { IfOk result IsWritten }
 {
     if lines.is_empty() {
         return Ok(Said::Nothing);
@@ -102,6 +105,7 @@ fn is_provable(sent: &Sent) -> bool
 fn read_challenge(alloc: Global, role: Role, response: &Response) -> Result<Said, OutOfMemory>
     ensures says { IfOk result (λ said. SaysItems (join_with_byte 44 (lines_of response.now (challenge_field role))) said) }
     ensures few { IfOk result IsFew }
+    ensures written { IfOk result IsWritten }
 {
     let lines = response.fields.lines(alloc, challenge_field(role))?;
     read_items(alloc, &lines)
@@ -111,6 +115,7 @@ fn read_challenge(alloc: Global, role: Role, response: &Response) -> Result<Said
 fn read_proof(alloc: Global, role: Role, response: &Response) -> Result<Said, OutOfMemory>
     ensures says { IfOk result (λ said. SaysInfo (lines_of response.now (info_field role)) said) }
     ensures few { IfOk result IsFew }
+    ensures written { IfOk result IsWritten }
 {
     let lines = response.fields.lines(alloc, info_field(role))?;
     read_info(alloc, &lines)
@@ -125,6 +130,7 @@ pub(crate) fn said_by(
 ) -> Result<Said, OutOfMemory>
     ensures says { IfOk result (λ said. Says role sent.now response.now said) }
     ensures few { IfOk result IsFew }
+    ensures written { IfOk result IsWritten }
 {
     if response.status == challenge_status(role) {
         return read_challenge(alloc, role, response);

@@ -1,6 +1,8 @@
 //! Credentials of SCRAM-SHA-256.
 ghost use Rattle.std.specs.Prelude.{◌≡◌, true, IfOk};
 ghost use Rattle.auth_grammar.specs.Plain.{is_plain_name};
+ghost use Rattle.auth_grammar.specs.Valid.{is_quotable_text, is_valid};
+ghost use Rattle.client_core.specs.Writings.{is_quotable};
 ghost use Rattle.client_core.specs.Cnonces.{words_text};
 ghost use Rattle.client_core.specs.Scrams.{again_nonce, base64_text, can_reuse, data_param, final_item, final_text, first_bare, first_item, param, realm_params, scram_item};
 
@@ -33,7 +35,8 @@ pub(crate) fn first_item(
     choice: &ScramChoice,
     first: &First,
 ) -> Result<Item, OutOfMemory>
-    ensures { IfOk result (λ item. item ≡ first_item choice.now.realm first.now.bare) }
+    ensures item { IfOk result (λ item. item ≡ first_item choice.now.realm first.now.bare) }
+    ensures valid { IfOk result (λ item. is_quotable choice.now.realm ≡ true → is_valid item ≡ true) }
 {
     let mut text = Octets::of(alloc, b"n,,")?;
     text.extend(first.bare.bytes())?;
@@ -59,7 +62,8 @@ pub(crate) fn final_item(
     exchange: &Exchange,
     nonce: &[u8],
 ) -> Result<Item, OutOfMemory>
-    ensures { IfOk result (λ item. item ≡ final_item exchange.now nonce.now) }
+    ensures item { IfOk result (λ item. item ≡ final_item exchange.now nonce.now) }
+    ensures valid { IfOk result (λ item. is_quotable_text exchange.now.sid ≡ true → is_valid item ≡ true) }
 {
     let text = final_text(alloc, exchange, nonce)?;
     let mut params = ParamList::new(alloc);
@@ -119,7 +123,8 @@ fn scram_item(alloc: Global, params: ParamList) -> Result<Item, OutOfMemory>
 
 /// The parameter with a message.
 fn data_param(alloc: Global, message: &[u8]) -> Result<Param, OutOfMemory>
-    ensures { IfOk result (λ made. made ≡ data_param message.now) }
+    ensures param { IfOk result (λ made. made ≡ data_param message.now) }
+    ensures quotable { IfOk result (λ made. is_quotable_text (base64_text message.now) ≡ true) }
 {
     param(alloc, b"data", base64_of(alloc, message)?.bytes())
 }
@@ -135,7 +140,8 @@ fn param(alloc: Global, name: &[u8], value: &[u8]) -> Result<Param, OutOfMemory>
 
 /// The base64 of bytes.
 fn base64_of(alloc: Global, bytes: &[u8]) -> Result<Octets, OutOfMemory>
-    ensures { IfOk result (λ text. text ≡ base64_text bytes.now) }
+    ensures text { IfOk result (λ text. text ≡ base64_text bytes.now) }
+    ensures quotable { IfOk result (λ text. is_quotable_text (base64_text bytes.now) ≡ true) }
 {
     let text = STANDARD.encode(alloc, bytes)?;
     Octets::of(alloc, text.as_bytes())

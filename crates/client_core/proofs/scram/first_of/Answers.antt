@@ -9,4 +9,4 @@ new-requires-clause-name c = some_printable c.args.name.now c.requires
 pub new-requires-clause-nonce : goal.new-requires-clause-nonce
 new-requires-clause-nonce c =
     let P : List ℕ → Type 0 = λ text. some_of is_nonce_byte text ≡ true in
-    subst P (sym c.words_text-nonce.ensures) (some_nonce c.args.words.now (omega arith) c.fits-words)
+    subst P (sym c.words_text-nonce.ensures.text) (some_nonce c.args.words.now (omega arith) c.fits-words)
