@@ -1,3 +1,4 @@
+pub mod ChallengeLaws
 pub mod CountLaws
 pub mod FirstMessages
 pub mod HashNames

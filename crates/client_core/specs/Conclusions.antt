@@ -17,6 +17,7 @@ use Rattle.client_core.specs.declared.choice.Choice.TheVariants as choice
 use Rattle.client_core.specs.declared.conclusion.Conclusion.{Conclusion}
 use Rattle.client_core.specs.declared.outcome.Outcome.TheVariants.{Mutual, OneWay, Retry, NoOffer, Malformed}
 use Rattle.client_core.specs.declared.hearing.Heard.{Heard}
+use Rattle.client_core.specs.declared.hearing.Heard.TheVariants as heard
 use Rattle.client_core.specs.declared.reading.Said.{Said}
 use Rattle.client_core.specs.declared.reading.Said.TheVariants as said
 use Rattle.client_core.specs.declared.request.OutRequest.{OutRequest}
@@ -29,6 +30,7 @@ use Rattle.client_core.specs.declared.state.Chosen.TheVariants as chosen
 use Rattle.client_core.specs.declared.state.DigestChoice.{DigestChoice}
 use Rattle.client_core.specs.declared.state.State.{State}
 use Rattle.client_core.specs.declared.state.User.{User}
+use Rattle.client_core.specs.Changes.{applied}
 use Rattle.client_core.specs.Choices.{choice_of, offered}
 use Rattle.client_core.specs.Digests.{secret_with}
 use Rattle.client_core.specs.Hearings.{continued}
@@ -168,3 +170,7 @@ concluded s request what response moment (said.Malformed at) heard = conclusion 
 concluded s request what response moment (said.Challenge items) heard = challenged s what items moment heard
 concluded s request what response moment said.Nothing heard = unproved what
 concluded s request what response moment (said.Info params) heard = informed s request what response params heard
+
+-- what a client keeps that hears these challenges in answer to a request without credentials
+abbrev pub challenged_state : State → OutRequest → Response → ℕ → List Item → State
+challenged_state s request response moment items = applied (concluded s request sent.Nothing response moment (said.Challenge items) heard.Nothing).change s
