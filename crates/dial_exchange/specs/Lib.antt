@@ -1,0 +1,4 @@
+pub mod Exchanges
+pub mod Dials
+pub mod Talking
+pub mod Laws
