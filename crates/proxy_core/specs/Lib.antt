@@ -1,0 +1,9 @@
+pub mod Targets
+pub mod Fields
+pub mod Outgoing
+pub mod Outside
+pub mod Replies
+pub mod Serving
+pub mod Carrying
+pub mod Laws
+pub mod Promises
