@@ -1,0 +1,9 @@
+pub mod Accounts
+pub mod Ports
+pub mod Rounds
+pub mod Exchanging
+pub mod Making
+pub mod Replying
+pub mod Places
+pub mod Targets
+pub mod Whole

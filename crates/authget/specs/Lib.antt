@@ -1,0 +1,12 @@
+pub mod Stops
+pub mod Urls
+pub mod Words
+pub mod Passwords
+pub mod Requests
+pub mod Replies
+pub mod Fetched
+pub mod Outside
+pub mod Exchanges
+pub mod Telling
+pub mod Writings
+pub mod Endings
