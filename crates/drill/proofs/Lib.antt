@@ -1,0 +1,10 @@
+pub mod Counts
+pub mod Decided
+pub mod Deliveries
+pub mod First
+pub mod Given
+pub mod Kept
+pub mod Known
+pub mod Lists
+pub mod Plain
+pub mod Repeats

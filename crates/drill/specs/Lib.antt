@@ -1,0 +1,5 @@
+pub mod Site
+pub mod Requests
+pub mod Deciding
+pub mod World
+pub mod Laws
