@@ -11,9 +11,11 @@ use Rattle.listen_core.specs.declared.server.OriginServer.{OriginServer}
 use Rattle.listen_core.specs.declared.workers.Worker.{Worker}
 use Rattle.nonce_shard.specs.Seat.{Seat}
 use Rattle.origin_core.specs.Outside.{FilesState, files_state}
-use Rattle.origin_core.specs.declared.events.Event.{Event}
-use Rattle.origin_core.specs.declared.events.Operation.{Operation}
-use Rattle.origin_core.specs.declared.server.Server.{Server}
+use Rattle.origin_core.specs.declared.events.FileEvent.{FileEvent}
+use Rattle.origin_core.specs.declared.events.FileOperation.{FileOperation}
+use Rattle.request_deciding.specs.declared.events.Event.{Event}
+use Rattle.request_deciding.specs.declared.events.Operation.{Operation}
+use Rattle.request_deciding.specs.declared.server.Server.{Server}
 use Rattle.worker_loop.specs.Connections.{WorkerState}
 use Rattle.worker_loop.specs.Seating.{EndsAsWorst}
 use Rattle.worker_loop.specs.Service.{Service}
@@ -52,7 +54,7 @@ crew workers passes = record { workers = workers; passes = passes }
 -- what files tell, how a site is served, and a worker beside its pass
 pub record Sight (A F C W T : Type 0) : Type 1 where
   pub files : F → FilesState
-  pub service : Site → Service Server Operation Event (OriginServer F C W T)
+  pub service : Site → Service Server (Operation FileOperation) (Event FileEvent) (OriginServer F C W T)
   pub state : Worker A F C W → T → WorkerState (OriginServer F C W T)
 
 abbrev pub sight_of : {A F C W T : Type 0} → (A → Option (List (List ℕ))) → (A → Option Handed) → (A → ℕ)

@@ -7,9 +7,10 @@ use Rattle.connection_loop.specs.declared.served.Served.{Served}
 use Rattle.nonce_shard.specs.Journal.{Journal, seat_of}
 use Rattle.nonce_shard.specs.Sizes.{single_sizes}
 use Rattle.origin_core.specs.Admissions.{ServesConnection}
-use Rattle.origin_core.specs.Outside.{Outside, outside_of, table_state}
-use Rattle.origin_core.specs.Serving.{server}
+use Rattle.origin_core.specs.Outside.{Outside, outside_of}
 use Rattle.origin_core.specs.declared.alone.TheConstants.{CONNECTION_CALLS}
+use Rattle.request_deciding.specs.Outside.{table_state}
+use Rattle.request_deciding.specs.Serving.{server}
 use Rattle.authd.specs.Causes.{serve_failure}
 use Rattle.authd.specs.Endings.{Ending}
 use Rattle.authd.specs.Loading.{LoadsSite}

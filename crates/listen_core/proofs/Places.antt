@@ -7,7 +7,9 @@ use Rattle.auth_io.specs.Files.{Contents}
 use Rattle.auth_io.specs.Handing.{Handed}
 use Rattle.auth_io.specs.declared.files.Ending.{Ending}
 use Rattle.nonce_shard.specs.Seat.{SameSeat, Seat}
-use Rattle.origin_core.specs.Laws.{lacked_later, passed_none, passed_then}
+use Rattle.origin_core.specs.Laws.{passed_none, passed_then}
+use Rattle.request_deciding.specs.Findings.{found_in}
+use Rattle.request_deciding.specs.Laws.{lacked_later}
 use Rattle.worker_loop.specs.Connections.{worker_state}
 use Rattle.worker_loop.specs.Seating.{EndsAsWorst, ServesPlace}
 use Rattle.worker_loop.specs.Service.{IsLawful, Service}
@@ -55,7 +57,7 @@ origin_laws {F} {C} {W} {T} contents asked file_faults shown drawn random_faults
     record {
       passed_none = λ a. passed_none (at a);
       passed_join = λ a b c xs ys p q. passed_then (at a) (at b) (at c) xs ys p q;
-      lacked_later = λ a b c xs p. lacked_later (at a).table (at b).table (at c).table xs p.table;
+      lacked_later = λ a b c xs p. lacked_later (at a).table (at b).table (at c).table (found_in xs) p.table;
     }
 
 -- what holds at a place, whether the workers served or the lists went back as they were

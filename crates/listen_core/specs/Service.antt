@@ -3,7 +3,8 @@ use Rattle.std.specs.Prelude.{ℕ, List, Option}
 use Rattle.auth_io.specs.Files.{Contents}
 use Rattle.auth_io.specs.declared.files.Ending.{Ending}
 use Rattle.nonce_shard.specs.Seat.{Seat}
-use Rattle.origin_core.specs.Outside.{Outside, files_state, outside_of, table_state}
+use Rattle.origin_core.specs.Outside.{Outside, files_state, outside_of}
+use Rattle.request_deciding.specs.Outside.{table_state}
 use Rattle.listen_core.specs.declared.server.OriginServer.{OriginServer}
 
 -- the outside that it uses

@@ -3,7 +3,8 @@ use auth_decide::Site;
 use auth_io::{Clock, Files, Link, Words};
 use connection_loop::{ServeError, Served};
 use nonce_shard::TableSeat;
-use origin_core::{Event, Operation, Server as Origin, serve_connection};
+use origin_core::{FileEvent, FileOperation, serve_connection};
+use request_deciding::{Event, Operation, Server as Origin};
 use std::alloc::Global;
 use worker_loop::Server;
 
@@ -19,17 +20,21 @@ pub struct OriginServer<F, C, W, T> {
 
 impl<F: Files, C: Clock, W: Words, T: TableSeat> Server for OriginServer<F, C, W, T> {
     ghost use Rattle.listen_core.specs.Service.{outside_at, shards_of};
-    ghost use Rattle.origin_core.specs.Laws.{passed_none, passed_then, lacked_later};
-    ghost use Rattle.origin_core.specs.Outside.{Passed, LackedBy};
-    ghost use Rattle.origin_core.specs.Serving.{origin, server};
+    ghost use Rattle.origin_core.specs.Laws.{passed_none, passed_then};
+    ghost use Rattle.origin_core.specs.Outside.{Passed};
+    ghost use Rattle.origin_core.specs.Serving.{origin};
+    ghost use Rattle.request_deciding.specs.Findings.{found_in};
+    ghost use Rattle.request_deciding.specs.Laws.{lacked_later};
+    ghost use Rattle.request_deciding.specs.Outside.{LackedBy};
+    ghost use Rattle.request_deciding.specs.Serving.{server};
 
     type Site = Site;
 
     type State = Origin;
 
-    type Ask = Operation;
+    type Ask = Operation<FileOperation>;
 
-    type Event = Event;
+    type Event = Event<FileEvent>;
 
     ghost machine = { origin };
 
@@ -66,5 +71,5 @@ impl<F: Files, C: Clock, W: Words, T: TableSeat> Server for OriginServer<F, C, W
         passed_then (at a) (at b) (at c) xs ys p q };
 
     ghost lacked_later = { λ a b c xs p. let at = outside_at F.contents F.asked F.faults W.drawn W.faults T.seat in
-        lacked_later (at a).table (at b).table (at c).table xs p.table };
+        lacked_later (at a).table (at b).table (at c).table (found_in xs) p.table };
 }

@@ -14,7 +14,7 @@ use Rattle.auth_decide.specs.declared.credentials.RequestCredentials.{RequestCre
 use Rattle.auth_grammar.specs.declared.items.Role.TheVariants.{Origin}
 use Rattle.connection_loop.proofs.Sessions.{asks_at, session-lacks, session-said}
 use Rattle.connection_loop.specs.Account.{Account, LinkState, supply_of}
-use Rattle.connection_loop.specs.Machine.{Asks, Incoming, Lacks, Move, Said, Says, Turn, turn}
+use Rattle.connection_loop.specs.Machine.{Asks, Incoming, Lacks, Said, Says, Turn, turn}
 use Rattle.connection_loop.specs.Results.{ServesSession, Tells, read_session, whole_input, whole_session}
 use Rattle.connection_loop.specs.Session.{Session, Supply, admits, closed_or, due_text, refusal, session}
 use Rattle.connection_loop.specs.declared.responder.Response.{Response}
@@ -26,60 +26,63 @@ use Rattle.http_wire.specs.declared.request.Request.{Request}
 use Rattle.nonce_shard.proofs.CallPlaces.{calls_stand}
 use Rattle.nonce_shard.specs.Laws.{Stand}
 use Rattle.nonce_shard.specs.Seat.{Entry, Seat}
-use Rattle.origin_core.proofs.Requests.{asked_each, decided_by}
+use Rattle.request_deciding.specs.Findings.{IsSound, calls_in, found_in}
+use Rattle.request_deciding.specs.Laws.{found_in-append}
+use Rattle.request_deciding.specs.Outside.{LackedBy, TableState}
+use Rattle.request_deciding.specs.Serving.{question_of}
+use Rattle.request_deciding.specs.declared.events.Event.TheVariants.{Found, Behind}
+use Rattle.request_deciding.specs.declared.events.Finding.{Finding}
+use Rattle.request_deciding.specs.declared.events.Finding.TheVariants.{CredentialsRead, Drew, Called}
+use Rattle.request_deciding.specs.declared.events.Inquiry.TheVariants.{ReadCredentials, Draw, CallTable}
+use Rattle.request_deciding.specs.declared.events.Operation.TheVariants.{Inquire, Behind as WantBehind}
+use Rattle.request_deciding.specs.declared.server.Server.{Server}
+use Rattle.origin_core.proofs.Requests.{Done, Moved, Wanted, asked_each, decided_by}
 use Rattle.origin_core.proofs.Walks.{Walk, turn_uses}
 use Rattle.origin_core.specs.Admissions.{AnswersNone, AreServed, IsReadOf, IsRightlyAnswered, ServedRequest, ServesRequests, ServesConnection, events_of}
-use Rattle.origin_core.specs.Events.{IsSound, calls_in, operation_of}
-use Rattle.origin_core.specs.Outside.{Outside, Passed, LackedBy, TableState}
-use Rattle.origin_core.specs.Serving.{origin, question_of}
-use Rattle.origin_core.specs.declared.events.Event.{Event}
-use Rattle.origin_core.specs.declared.events.Event.TheVariants.{CredentialsRead, Drew, Called, FileRead, FileReplaced}
-use Rattle.origin_core.specs.declared.events.Operation.{Operation}
-use Rattle.origin_core.specs.declared.events.Operation.TheVariants.{ReadCredentials, Draw, CallTable, ReadFile, ReplaceFile}
-use Rattle.origin_core.specs.declared.server.Server.{Server}
+use Rattle.origin_core.specs.Events.{operation_of}
+use Rattle.origin_core.specs.Outside.{Outside, Passed}
+use Rattle.origin_core.specs.Serving.{origin}
 
 abbrev OriginSession : Type 0
-OriginSession = Session Server Operation Event
+OriginSession = Session Server Wanted Done
 
-all_behind : (P : Event → Type 0) (xs ys : List Event) → All P (xs ++ ys) → All P ys
-all_behind P [] ys all = all
-all_behind P (x ∷ xs) ys all = all_behind P xs ys (All-tail P x (xs ++ ys) all)
+all_behind : (P : Finding → Type 0) (xs ys : List Done) → All P (found_in (xs ++ ys)) → All P (found_in ys)
+all_behind P xs ys all = rest (found_in xs) (found_in ys) (subst (λ (l : List Finding). All P l) (found_in-append xs ys) all)
+  where
+    rest : (l m : List Finding) → All P (l ++ m) → All P m
+    rest [] m some = some
+    rest (x ∷ l) m some = rest l m (All-tail P x (l ++ m) some)
 
 -- ---- one request
 
-abbrev Moved : Type 0
-Moved = Move Operation Server
-
 -- it begins with its credentials, which are read as what its lines say
-record BeginsRead (s : Server) (incoming : Incoming) (used : List Event) (response : Response) (now : Server) : Type 0 where
+record BeginsRead (s : Server) (incoming : Incoming) (used : List Done) (response : Response) (now : Server) : Type 0 where
   credentials : RequestCredentials
-  behind : List Event
-  is : used ≡ CredentialsRead (credentials_lines Origin incoming.request) credentials ∷ behind
-  walk : Walk origin s incoming (CredentialsRead (credentials_lines Origin incoming.request) credentials ∷ []) behind response now
+  behind : List Done
+  is : used ≡ Found (CredentialsRead (credentials_lines Origin incoming.request) credentials) ∷ behind
+  walk : Walk origin s incoming (Found (CredentialsRead (credentials_lines Origin incoming.request) credentials) ∷ []) behind response now
 
-begins_read : (s : Server) (incoming : Incoming) (used : List Event) (response : Response) (now : Server) → Walk origin s incoming [] used response now → BeginsRead s incoming used response now
+begins_read : (s : Server) (incoming : Incoming) (used : List Done) (response : Response) (now : Server) → Walk origin s incoming [] used response now → BeginsRead s incoming used response now
 begins_read s incoming [] response now walk =
-    absurd (let no : ◌≡◌ {A = Moved} (Asks (ReadCredentials (credentials_lines Origin incoming.request)) s) (Says response now) = walk in cc)
-begins_read s incoming (CredentialsRead lines credentials ∷ behind) response now walk =
-    let both : ◌≡◌ {A = Moved} (Asks (ReadCredentials (credentials_lines Origin incoming.request)) s) (Asks (ReadCredentials lines) walk.0) = walk.1 in
+    absurd (let no : ◌≡◌ {A = Moved} (Asks (Inquire (ReadCredentials (credentials_lines Origin incoming.request))) s) (Says response now) = walk in cc)
+begins_read s incoming (Found (CredentialsRead lines credentials) ∷ behind) response now walk =
+    let both : ◌≡◌ {A = Moved} (Asks (Inquire (ReadCredentials (credentials_lines Origin incoming.request))) s) (Asks (Inquire (ReadCredentials lines)) walk.0) = walk.1 in
     let same : lines ≡ credentials_lines Origin incoming.request = cc in
     record {
       credentials = credentials;
       behind = behind;
-      is = ap (λ (l : List (List ℕ)). CredentialsRead l credentials ∷ behind) same;
-      walk = subst (λ (l : List (List ℕ)). Walk origin s incoming (CredentialsRead l credentials ∷ []) behind response now) same walk.2;
+      is = ap (λ (l : List (List ℕ)). Found (CredentialsRead l credentials) ∷ behind) same;
+      walk = subst (λ (l : List (List ℕ)). Walk origin s incoming (Found (CredentialsRead l credentials) ∷ []) behind response now) same walk.2;
     }
-begins_read s incoming (Drew words ∷ behind) response now walk =
-    absurd (let no : ◌≡◌ {A = Moved} (Asks (ReadCredentials (credentials_lines Origin incoming.request)) s) (Asks Draw walk.0) = walk.1 in cc)
-begins_read s incoming (Called shard call r ∷ behind) response now walk =
-    absurd (let no : ◌≡◌ {A = Moved} (Asks (ReadCredentials (credentials_lines Origin incoming.request)) s) (Asks (CallTable shard call) walk.0) = walk.1 in cc)
-begins_read s incoming (FileRead name answer ∷ behind) response now walk =
-    absurd (let no : ◌≡◌ {A = Moved} (Asks (ReadCredentials (credentials_lines Origin incoming.request)) s) (Asks (ReadFile name) walk.0) = walk.1 in cc)
-begins_read s incoming (FileReplaced name bytes ending ∷ behind) response now walk =
-    absurd (let no : ◌≡◌ {A = Moved} (Asks (ReadCredentials (credentials_lines Origin incoming.request)) s) (Asks (ReplaceFile name bytes) walk.0) = walk.1 in cc)
+begins_read s incoming (Found (Drew words) ∷ behind) response now walk =
+    absurd (let no : ◌≡◌ {A = Moved} (Asks (Inquire (ReadCredentials (credentials_lines Origin incoming.request))) s) (Asks (Inquire Draw) walk.0) = walk.1 in cc)
+begins_read s incoming (Found (Called shard call r) ∷ behind) response now walk =
+    absurd (let no : ◌≡◌ {A = Moved} (Asks (Inquire (ReadCredentials (credentials_lines Origin incoming.request))) s) (Asks (Inquire (CallTable shard call)) walk.0) = walk.1 in cc)
+begins_read s incoming (Behind file ∷ behind) response now walk =
+    absurd (let no : ◌≡◌ {A = Moved} (Asks (Inquire (ReadCredentials (credentials_lines Origin incoming.request))) s) (Asks (WantBehind (operation_of file)) walk.0) = walk.1 in cc)
 
 -- A request that was answered with these events: it was answered rightly, and its calls stand in place.
-record IsAnswered (seat : Seat) (seen : ℕ → List Entry) (new : Seat) (s : Server) (incoming : Incoming) (used : List Event) (response : Response) (now : Server) (more : List Event) : Type 0 where
+record IsAnswered (seat : Seat) (seen : ℕ → List Entry) (new : Seat) (s : Server) (incoming : Incoming) (used : List Done) (response : Response) (now : Server) (more : List Done) : Type 0 where
   request : ServedRequest
   incoming_is : request.incoming ≡ incoming
   response_is : request.response ≡ response
@@ -88,25 +91,26 @@ record IsAnswered (seat : Seat) (seen : ℕ → List Entry) (new : Seat) (s : Se
   same_server : now ≡ s
   then : ℕ → List Entry
   places : List (List Entry)
-  stand : Stand seat then new (calls_in more) places
+  stand : Stand seat then new (calls_in (found_in more)) places
   in_place : (further : List Step) → AreInPlace seat then new further → AreInPlace seat seen new (request.steps ++ further)
 
-answered : (seat : Seat) (seen : ℕ → List Entry) (new : Seat) (s : Server) (incoming : Incoming) (used : List Event) (response : Response) (now : Server) (more : List Event) (places : List (List Entry))
-    → Walk origin s incoming [] used response now → All IsSound (used ++ more) → Stand seat seen new (calls_in (used ++ more)) places → IsAnswered seat seen new s incoming used response now more
+answered : (seat : Seat) (seen : ℕ → List Entry) (new : Seat) (s : Server) (incoming : Incoming) (used : List Done) (response : Response) (now : Server) (more : List Done) (places : List (List Entry))
+    → Walk origin s incoming [] used response now → All IsSound (found_in (used ++ more)) → Stand seat seen new (calls_in (found_in (used ++ more))) places → IsAnswered seat seen new s incoming used response now more
 answered seat seen new s incoming used response now more places walk sound stand =
     let lines = credentials_lines Origin incoming.request in
     let b = begins_read s incoming used response now walk in
-    let event : Event = CredentialsRead lines b.credentials in
-    let q = question_of s incoming b.credentials in
-    let at : Stand seat seen new (calls_in (b.behind ++ more)) places = subst (λ (l : List Event). Stand seat seen new (calls_in (l ++ more)) places) b.is stand in
-    let reads : Reads lines b.credentials = All-head IsSound event (b.behind ++ more) (subst (λ (l : List Event). All IsSound (l ++ more)) b.is sound) in
+    let finding : Finding = CredentialsRead lines b.credentials in
+    let event : Done = Found finding in
+    let q = question_of Origin s incoming b.credentials in
+    let at : Stand seat seen new (calls_in (found_in (b.behind ++ more))) places = subst (λ (l : List Done). Stand seat seen new (calls_in (found_in (l ++ more))) places) b.is stand in
+    let reads : Reads lines b.credentials = All-head IsSound finding (found_in (b.behind ++ more)) (subst (λ (l : List Done). All IsSound (found_in (l ++ more))) b.is sound) in
     let d = decided_by seat seen new s incoming lines b.credentials [] b.behind response now more places at b.walk in
     let all = asked_each seat.sizes q [] d.steps d.asks in
     record {
       request = record { incoming = incoming; credentials = b.credentials; steps = d.steps; verdict = d.verdict; file = d.file; response = response };
       incoming_is = refl;
       response_is = refl;
-      is = b.is ∙ ap (λ (l : List Event). event ∷ l) d.is;
+      is = b.is ∙ ap (λ (l : List Done). event ∷ l) d.is;
       rightly = record {
         file = d.carried;
         answered = d.replies;
@@ -125,7 +129,7 @@ answered seat seen new s incoming used response now more places walk sound stand
 -- ---- a session
 
 -- what a session has answered, from some request on
-record Answers (seat : Seat) (seen : ℕ → List Entry) (new : Seat) (s : Server) (input moments : List ℕ) (events : List Event) (t : OriginSession) : Type 0 where
+record Answers (seat : Seat) (seen : ℕ → List Entry) (new : Seat) (s : Server) (input moments : List ℕ) (events : List Done) (t : OriginSession) : Type 0 where
   served : List ServedRequest
   are : AreServed seat.sizes s served (record { input = input; output = t.output; moments = moments; events = events })
   in_place : AreInPlace seat seen new (flat_map (λ r. r.steps) served)
@@ -133,7 +137,7 @@ record Answers (seat : Seat) (seen : ℕ → List Entry) (new : Seat) (s : Serve
   admitted : t.admitted ≡ sum_by (λ r. admits r.response) served
 
 -- none, where what is written answers none
-answers_none : (seat : Seat) (seen : ℕ → List Entry) (new : Seat) (s : Server) (input moments : List ℕ) (events : List Event) (t : OriginSession) → AnswersNone t.output → t.requests ≡ 0 → t.admitted ≡ 0
+answers_none : (seat : Seat) (seen : ℕ → List Entry) (new : Seat) (s : Server) (input moments : List ℕ) (events : List Done) (t : OriginSession) → AnswersNone t.output → t.requests ≡ 0 → t.admitted ≡ 0
     → Answers seat seen new s input moments events t
 answers_none seat seen new s input moments events t none requests admitted = record { served = []; are = none; in_place = tt; requests = requests; admitted = admitted }
 
@@ -141,27 +145,27 @@ due_answers_none : (waits : Bool) → AnswersNone (due_text waits)
 due_answers_none true = inr (inl refl)
 due_answers_none false = inl refl
 
-abbrev supply : List ℕ → List Event → Supply Event
+abbrev supply : List ℕ → List Done → Supply Done
 supply moments events = record { moments = moments; events = events }
 
-abbrev of_origin : ℕ → Server → List ℕ → List ℕ → List Event → OriginSession
+abbrev of_origin : ℕ → Server → List ℕ → List ℕ → List Done → OriginSession
 of_origin room s input moments events = session origin room s input (supply moments events)
 
 -- what the session from some request on answers, with so many requests still to come
 abbrev AnswersFrom : Seat → Seat → ℕ → Type 0
-AnswersFrom seat new room = (s : Server) (input moments : List ℕ) (events : List Event) (seen : ℕ → List Entry) (places : List (List Entry)) → All IsSound events
-    → Stand seat seen new (calls_in events) places → (of_origin room s input moments events).asks ≡ map operation_of events → Answers seat seen new s input moments events (of_origin room s input moments events)
+AnswersFrom seat new room = (s : Server) (input moments : List ℕ) (events : List Done) (seen : ℕ → List Entry) (places : List (List Entry)) → All IsSound (found_in events)
+    → Stand seat seen new (calls_in (found_in events)) places → (of_origin room s input moments events).asks ≡ map origin.ask_of events → Answers seat seen new s input moments events (of_origin room s input moments events)
 
 -- after a request that closes nothing is answered
-closed_answers : (seat : Seat) (seen : ℕ → List Entry) (new : Seat) (s : Server) (closes : Bool) (room : ℕ) (input moments : List ℕ) (events : List Event) (t : OriginSession)
-    → (t.asks ≡ map operation_of events → Answers seat seen new s input moments events t)
-    → (closed_or closes room s (supply moments events) t).asks ≡ map operation_of events → Answers seat seen new s input moments events (closed_or closes room s (supply moments events) t)
+closed_answers : (seat : Seat) (seen : ℕ → List Entry) (new : Seat) (s : Server) (closes : Bool) (room : ℕ) (input moments : List ℕ) (events : List Done) (t : OriginSession)
+    → (t.asks ≡ map origin.ask_of events → Answers seat seen new s input moments events t)
+    → (closed_or closes room s (supply moments events) t).asks ≡ map origin.ask_of events → Answers seat seen new s input moments events (closed_or closes room s (supply moments events) t)
 closed_answers seat seen new s false room input moments events t later asks = later asks
 closed_answers seat seen new s true zero input moments events t later asks = later asks
 closed_answers seat seen new s true (suc room) input moments events t later asks = answers_none seat seen new s input moments events (closed_or true (suc room) s (supply moments events) t) (inl refl) refl refl
 
 -- one request more
-one_more : (seat : Seat) (seen : ℕ → List Entry) (new : Seat) (s : Server) (input rest moments : List ℕ) (moment : ℕ) (used events : List Event) (waits : Bool) (incoming : Incoming) (response : Response) (now : Server) (t u : OriginSession)
+one_more : (seat : Seat) (seen : ℕ → List Entry) (new : Seat) (s : Server) (input rest moments : List ℕ) (moment : ℕ) (used events : List Done) (waits : Bool) (incoming : Incoming) (response : Response) (now : Server) (t u : OriginSession)
     → front input ≡ Whole waits incoming.request rest → incoming.moment ≡ moment → (a : IsAnswered seat seen new s incoming used response now events)
     → t.output ≡ (due_text waits ++ response.text) ++ u.output → t.requests ≡ 1 + u.requests → t.admitted ≡ admits response + u.admitted
     → Answers seat a.then new s rest moments events u → Answers seat seen new s input (moment ∷ moments) (used ++ events) t
@@ -176,7 +180,7 @@ one_more seat seen new s input rest moments moment used events waits incoming re
           whole = whole ∙ ap (λ (i : Incoming). Whole waits i.request rest) (sym a.incoming_is);
           wrote = output ∙ ap (λ (x : Response). (due_text waits ++ x.text) ++ u.output) (sym a.response_is);
           moment = ap (λ (n : ℕ). n ∷ moments) (sym moment_is ∙ ap (λ (i : Incoming). i.moment) (sym a.incoming_is));
-          events = ap (λ (l : List Event). l ++ events) a.is;
+          events = ap (λ (l : List Done). l ++ events) a.is;
           rightly = a.rightly;
         },
         later.are,
@@ -188,9 +192,9 @@ one_more seat seen new s input rest moments moment used events waits incoming re
     }
 
 -- the next message is a request that was answered, or can't be
-at_turn : (seat new : Seat) (room : ℕ) → AnswersFrom seat new room → (s : Server) (input : List ℕ) (moment : ℕ) (moments : List ℕ) (events : List Event) (seen : ℕ → List Entry) (places : List (List Entry)) (waits : Bool) (request : Request) (rest : List ℕ)
-    → All IsSound events → Stand seat seen new (calls_in events) places → front input ≡ Whole waits request rest → (t : Turn Server Operation Event) → turn origin events s (asks_at request room moment) [] ≡ t
-    → (of_origin (suc room) s input (moment ∷ moments) events).asks ≡ map operation_of events
+at_turn : (seat new : Seat) (room : ℕ) → AnswersFrom seat new room → (s : Server) (input : List ℕ) (moment : ℕ) (moments : List ℕ) (events : List Done) (seen : ℕ → List Entry) (places : List (List Entry)) (waits : Bool) (request : Request) (rest : List ℕ)
+    → All IsSound (found_in events) → Stand seat seen new (calls_in (found_in events)) places → front input ≡ Whole waits request rest → (t : Turn Server Wanted Done) → turn origin events s (asks_at request room moment) [] ≡ t
+    → (of_origin (suc room) s input (moment ∷ moments) events).asks ≡ map origin.ask_of events
     → Answers seat seen new s input (moment ∷ moments) events (of_origin (suc room) s input (moment ∷ moments) events)
 at_turn seat new room later s input moment moments events seen places waits request rest sound stand whole (Lacks lacked now asks) is same =
     let e = session-lacks origin room s now input moment moments events waits request rest lacked asks whole is in
@@ -204,20 +208,20 @@ at_turn seat new room later s input moment moments events seen places waits requ
     let e = session-said origin room s now input moment moments events left waits request rest response asks whole is in
     let put = ap (λ (f : Front). due_text (is_due f)) whole in
     let u = turn_uses origin s incoming [] events response now asks left ((next now).asks) is (sym (ap (λ (x : OriginSession). x.asks) e) ∙ same) in
-    let all : All IsSound (u.used ++ left) = subst (λ (l : List Event). All IsSound l) u.is sound in
-    let at : Stand seat seen new (calls_in (u.used ++ left)) places = subst (λ (l : List Event). Stand seat seen new (calls_in l) places) u.is stand in
+    let all : All IsSound (found_in (u.used ++ left)) = subst (λ (l : List Done). All IsSound (found_in l)) u.is sound in
+    let at : Stand seat seen new (calls_in (found_in (u.used ++ left))) places = subst (λ (l : List Done). Stand seat seen new (calls_in (found_in l)) places) u.is stand in
     let a = answered seat seen new s incoming u.used response now left places u.walk all at in
-    let rest_asks : (next s).asks ≡ map operation_of left = ap (λ (x : Server). (next x).asks) (sym a.same_server) ∙ u.rest in
+    let rest_asks : (next s).asks ≡ map origin.ask_of left = ap (λ (x : Server). (next x).asks) (sym a.same_server) ∙ u.rest in
     let below = closed_answers seat a.then new s request.closes room rest moments left (of_origin room s rest moments left)
     (later s rest moments left a.then a.places (all_behind IsSound u.used left all) a.stand) rest_asks in
     let then = subst (λ (x : Server). Answers seat a.then new s rest moments left (next x)) (sym a.same_server) below in
-    subst (λ (l : List Event). Answers seat seen new s input (moment ∷ moments) l (of_origin (suc room) s input (moment ∷ moments) events)) (sym u.is)
+    subst (λ (l : List Done). Answers seat seen new s input (moment ∷ moments) l (of_origin (suc room) s input (moment ∷ moments) events)) (sym u.is)
     (one_more seat seen new s input rest moments moment u.used left waits incoming response now (of_origin (suc room) s input (moment ∷ moments) events) (next now) whole refl a
     (ap (λ (x : OriginSession). x.output) e ∙ ap (λ (l : List ℕ). (l ++ response.text) ++ (next now).output) put)
     (ap (λ (x : OriginSession). x.requests) e) (ap (λ (x : OriginSession). x.admitted) e) then)
 
-at_front : (seat new : Seat) (room : ℕ) → AnswersFrom seat new room → (s : Server) (input moments : List ℕ) (events : List Event) (seen : ℕ → List Entry) (places : List (List Entry)) (f : Front) → front input ≡ f
-    → All IsSound events → Stand seat seen new (calls_in events) places → (of_origin (suc room) s input moments events).asks ≡ map operation_of events
+at_front : (seat new : Seat) (room : ℕ) → AnswersFrom seat new room → (s : Server) (input moments : List ℕ) (events : List Done) (seen : ℕ → List Entry) (places : List (List Entry)) (f : Front) → front input ≡ f
+    → All IsSound (found_in events) → Stand seat seen new (calls_in (found_in events)) places → (of_origin (suc room) s input moments events).asks ≡ map origin.ask_of events
     → Answers seat seen new s input moments events (of_origin (suc room) s input moments events)
 unfolding session
 at_front seat new room later s input moments events seen places (Unfinished waits) is sound stand same =
@@ -244,15 +248,15 @@ answers_from seat new (suc room) s input moments events seen places sound stand 
 -- ---- the connection
 
 -- the session that an answer speaks of: its input, its asks and its output
-record Speaks (s : Server) (left' : Option (List ℕ)) (a : Account Event) (result : Result Served ServeError) : Type 0 where
+record Speaks (s : Server) (left' : Option (List ℕ)) (a : Account Done) (result : Result Served ServeError) : Type 0 where
   input : List ℕ
   read : IsReadOf a.input left' input
-  asks : (session origin 4096 s input (supply_of a)).asks ≡ map operation_of a.events
+  asks : (session origin 4096 s input (supply_of a)).asks ≡ map origin.ask_of a.events
   written : (rest : List ℕ) × ((session origin 4096 s input (supply_of a)).output ≡ a.output ++ rest)
   requests : IfOk result (λ x. x.requests ≡ (session origin 4096 s input (supply_of a)).requests)
   admitted : IfOk result (λ x. x.admitted ≡ (session origin 4096 s input (supply_of a)).admitted)
 
-whole_is_read : (left left' : Option (List ℕ)) (a : Account Event) → Consumes left left' a.input → IsReadOf a.input left' (whole_input left a)
+whole_is_read : (left left' : Option (List ℕ)) (a : Account Done) → Consumes left left' a.input → IsReadOf a.input left' (whole_input left a)
 whole_is_read None left' a c = inl refl
 whole_is_read (Some input) None a c = absurd c
 whole_is_read (Some input) (Some more) a c = inr (more, refl, c)
@@ -260,7 +264,7 @@ whole_is_read (Some input) (Some more) a c = inr (more, refl, c)
 no_rest : (output put : List ℕ) → output ≡ put → (rest : List ℕ) × (output ≡ put ++ rest)
 no_rest output put e = ([], e ∙ sym (append-nil put))
 
-speaks : (u v : TableState) (s now : Server) (left left' : Option (List ℕ)) (a : Account Event) (result : Result Served ServeError) → Consumes left left' a.input
+speaks : (u v : TableState) (s now : Server) (left left' : Option (List ℕ)) (a : Account Done) (result : Result Served ServeError) → Consumes left left' a.input
     → Tells origin (LackedBy u v) s now left left' a result → Speaks s left' a result
 speaks u v s now left left' a (Ok served) c tells = record {
   input = whole_input left a;
@@ -310,14 +314,14 @@ if_same (Ok served) f m n e is = is ∙ e
 if_same (Err error) f m n e is = tt
 
 -- Each request of a session was answered rightly.
-pub serves_requests : (before now : Outside) (left left' : Option (List ℕ)) (s s' : Server) (a : Account Event) (result : Result Served ServeError) → Consumes left left' a.input → Passed before now a.events
+pub serves_requests : (before now : Outside) (left left' : Option (List ℕ)) (s s' : Server) (a : Account Done) (result : Result Served ServeError) → Consumes left left' a.input → Passed before now a.events
     → Tells origin (LackedBy before.table now.table) s s' left left' a result → ServesRequests before.table.seat now.table.seat left' s a result
 serves_requests before now left left' s s' a result c passed tells =
     let seat = before.table.seat in
     let new = now.table.seat in
     let spoken = speaks before.table now.table s s' left left' a result c tells in
-    let stand = calls_stand seat new (calls_in a.events) passed.table.within passed.table.calls in
-    let t = answers_from seat new 4096 s spoken.input a.moments a.events seat.seen stand.0 passed.sound stand.1 spoken.asks in
+    let stand = calls_stand seat new (calls_in (found_in a.events)) passed.table.within passed.table.calls in
+    let t = answers_from seat new 4096 s spoken.input a.moments a.events seat.seen stand.0 passed.table.sound stand.1 spoken.asks in
     record {
       served = t.served;
       input = spoken.input;

@@ -1,5 +1,4 @@
-pub mod Answered
-pub mod Decisions
+pub mod Bounds
 pub mod Plans
 pub mod Walks
 pub mod Requests

@@ -1,203 +1,144 @@
 -- A table of its own is never worn by one connection.
 use Rattle.std.proofs.Common.{◌≡◌, ◌≢◌, ◌∷◌, [], ◌++◌, ◌≤◌, ◌<◌, ◌+◌, ℕ, suc, List, length, map, Option, Some, None, Result, Err, sym, refl, ap, ◌∙◌, subst, arith}
+use Rattle.std.proofs.lemmas.List.{append-nil}
 use Rattle.auth_decide.proofs.Calls.{calls_left, left_falls, asked_pays, Pays}
 use Rattle.auth_decide.specs.Asks.{asked}
 use Rattle.auth_decide.specs.Stages.{Answer, Words, Replied}
+use Rattle.auth_decide.specs.declared.credentials.RequestCredentials.{RequestCredentials}
 use Rattle.auth_decide.specs.declared.verdict.Ask.{Ask}
 use Rattle.auth_decide.specs.declared.verdict.Ask.TheVariants as ask
-use Rattle.connection_loop.proofs.Bounds.{total, Spends, stop_weight, session_weighs}
+use Rattle.auth_grammar.specs.declared.items.Role.TheVariants.{Origin}
+use Rattle.connection_loop.proofs.Bounds.{stop_weight, total}
 use Rattle.connection_loop.specs.Account.{Account, supply_of}
-use Rattle.connection_loop.specs.Machine.{Incoming, Move, Asks}
+use Rattle.connection_loop.specs.Machine.{Incoming, Move, Asks, Says}
 use Rattle.connection_loop.specs.Results.{Stalls, Tells, read_session}
-use Rattle.connection_loop.specs.declared.responder.Response.{Response}
 use Rattle.connection_loop.specs.declared.responder.Lack.TheVariants.{Worn as TableWorn}
 use Rattle.connection_loop.specs.declared.served.ServeError.{ServeError}
 use Rattle.connection_loop.specs.declared.served.ServeError.TheVariants.{Worn}
 use Rattle.connection_loop.specs.declared.served.Served.{Served}
 use Rattle.nonce_shard.proofs.JournalSeat.{never_worn}
 use Rattle.nonce_shard.specs.Journal.{Journal, seat_of}
-use Rattle.origin_core.proofs.Answered.{after_more, answers_more}
-use Rattle.origin_core.specs.Events.{answers_in, after_answers, calls_in, operation_of}
-use Rattle.origin_core.specs.Outside.{TableState, TablePassed, LackedBy}
-use Rattle.origin_core.specs.Replies.{plan_of}
-use Rattle.origin_core.specs.Serving.{by_decision, next_move, operation_for, origin, plan_reply, question_of, says_or, wants}
+use Rattle.nonce_shard.specs.declared.calls.Call.{Call}
+use Rattle.request_deciding.specs.Findings.{answers_in, behind_in, calls_in, credentials_in, found_in}
+use Rattle.request_deciding.specs.Laws.{found_in-append}
+use Rattle.request_deciding.specs.Outside.{TableState, TablePassed, LackedBy}
+use Rattle.request_deciding.specs.Serving.{lifted, move_by, next_by_ask, next_with, question_of}
+use Rattle.request_deciding.specs.declared.events.Event.TheVariants.{Found, Behind}
+use Rattle.request_deciding.specs.declared.events.Finding.TheVariants.{CredentialsRead, Drew, Called}
+use Rattle.request_deciding.specs.declared.events.Inquiry.{Inquiry}
+use Rattle.request_deciding.specs.declared.events.Inquiry.TheVariants.{ReadCredentials, Draw, CallTable}
+use Rattle.request_deciding.specs.declared.events.Operation.TheVariants.{Inquire, Behind as WantBehind}
+use Rattle.request_deciding.specs.declared.server.Server.{Server}
+use Rattle.origin_core.proofs.Bounds.{Spends, session_weighs}
+use Rattle.origin_core.proofs.Requests.{Done, Moved, Wanted, answers_in-append}
+use Rattle.origin_core.specs.Serving.{course, origin}
 use Rattle.origin_core.specs.declared.alone.TheConstants.{CONNECTION_CALLS}
-use Rattle.origin_core.specs.declared.events.Event.{Event}
-use Rattle.origin_core.specs.declared.events.Event.TheVariants.{CredentialsRead, Drew, Called, FileRead, FileReplaced}
-use Rattle.origin_core.specs.declared.events.Operation.{Operation}
-use Rattle.origin_core.specs.declared.events.Operation.TheVariants.{ReadCredentials, Draw, CallTable, ReadFile, ReplaceFile}
-use Rattle.origin_core.specs.declared.plan.Plan.{Plan}
-use Rattle.origin_core.specs.declared.plan.Plan.TheVariants.{Refuse, Read, Replace}
-use Rattle.origin_core.specs.declared.server.Server.{Server}
+use Rattle.origin_core.specs.declared.events.FileOperation.{FileOperation}
 
 -- calls of the table
-abbrev weight : Operation → ℕ
-weight (ReadCredentials lines) = 0
-weight Draw = 0
-weight (CallTable shard call) = 1
-weight (ReadFile name) = 0
-weight (ReplaceFile name bytes) = 0
+abbrev calls_for : Inquiry → ℕ
+calls_for (ReadCredentials lines) = 0
+calls_for Draw = 0
+calls_for (CallTable shard call) = 1
 
--- how many may come once these answers were given, and something was done after them
-abbrev left_after : List Event → List Answer → ℕ
-left_after [] answers = calls_left answers 3
-left_after (event ∷ events) answers = 0
+abbrev weight : Wanted → ℕ
+weight (Inquire inquiry) = calls_for inquiry
+weight (WantBehind wanted) = 0
 
 -- how many calls a request may still make
-abbrev budget : List Event → ℕ
-budget [] = 3
-budget (CredentialsRead lines credentials ∷ events) = left_after (after_answers events) (answers_in events)
-budget (Drew words ∷ events) = 0
-budget (Called shard call reply ∷ events) = 0
-budget (FileRead name answer ∷ events) = 0
-budget (FileReplaced name bytes ending ∷ events) = 0
+abbrev budget : List Done → ℕ
+budget events = calls_left (answers_in (found_in events)) 3
 
--- what came after answers stays in front
-after_kept : (xs ys : List Event) (event : Event) (more : List Event) → after_answers xs ≡ event ∷ more → after_answers (xs ++ ys) ≡ event ∷ (more ++ ys)
-after_kept [] ys event more is = absurd (let no : ◌≡◌ {A = List Event} [] (event ∷ more) = is in cc)
-after_kept (Drew words ∷ xs) ys event more is = after_kept xs ys event more is
-after_kept (Called shard call reply ∷ xs) ys event more is = after_kept xs ys event more is
-after_kept (CredentialsRead lines credentials ∷ xs) ys event more is = ap (λ (l : List Event). l ++ ys) is
-after_kept (FileRead name answer ∷ xs) ys event more is = ap (λ (l : List Event). l ++ ys) is
-after_kept (FileReplaced name bytes ending ∷ xs) ys event more is = ap (λ (l : List Event). l ++ ys) is
+-- ---- one more event
 
--- what is left after one more event
-left_more : (event : Event) (answers : List Answer) (n : ℕ) → ((answer : Answer) → calls_left (answers ++ answer ∷ []) 3 ≤ n) → left_after (after_answers (event ∷ [])) (answers ++ answers_in (event ∷ [])) ≤ n
-left_more (Drew words) answers n each = each (Words words)
-left_more (Called shard call reply) answers n each = each (Replied reply)
-left_more (CredentialsRead lines credentials) answers n each = omega arith
-left_more (FileRead name answer) answers n each = omega arith
-left_more (FileReplaced name bytes ending) answers n each = omega arith
+answers_more : (events : List Done) (event : Done) → answers_in (found_in (events ++ event ∷ [])) ≡ answers_in (found_in events) ++ answers_in (found_in (event ∷ []))
+answers_more events event = ap answers_in (found_in-append events (event ∷ [])) ∙ answers_in-append (found_in events) (found_in (event ∷ []))
 
-budget_more : (lines : List (List ℕ)) (credentials : _) (events : List Event) (event : Event) → after_answers events ≡ [] →
-    budget (CredentialsRead lines credentials ∷ (events ++ event ∷ [])) ≡ left_after (after_answers (event ∷ [])) (answers_in events ++ answers_in (event ∷ []))
-budget_more lines credentials events event none =
-    ap (λ (l : List Event). left_after l (answers_in (events ++ event ∷ []))) (after_more events (event ∷ []) none)
-    ∙ ap (left_after (after_answers (event ∷ []))) (answers_more events (event ∷ []) none)
+falls_by : (answers : List Answer) (event : Done) → calls_left (answers ++ answers_in (found_in (event ∷ []))) 3 ≤ calls_left answers 3
+falls_by answers (Found (CredentialsRead lines credentials)) = let same = ap (λ (l : List Answer). calls_left l 3) (append-nil answers) in omega (arith, same)
+falls_by answers (Found (Drew words)) = left_falls answers (Words words) 3
+falls_by answers (Found (Called shard call reply)) = left_falls answers (Replied reply) 3
+falls_by answers (Behind event) = let same = ap (λ (l : List Answer). calls_left l 3) (append-nil answers) in omega (arith, same)
 
--- an ask that weighs nothing, and one that is a call
-abbrev IsPaid : Operation → ℕ → List Event → Type 0
-IsPaid operation n done = (weight operation ≤ n) × ((event : Event) → weight operation + budget (done ++ event ∷ []) ≤ n)
+budget_falls : (events : List Done) (event : Done) → budget (events ++ event ∷ []) ≤ budget events
+budget_falls events event =
+    let size = ap (λ (l : List Answer). calls_left l 3) (answers_more events event) in
+    let few = falls_by (answers_in (found_in events)) event in
+    omega (arith, size, few)
 
-same_operation : {s now : Server} {a b : Operation} → ◌≡◌ {A = Move Operation Server} (Asks a s) (Asks b now) → weight b ≡ weight a
-same_operation {s} {now} {a} {b} is = cc
+-- ---- each ask is paid for
 
--- an ask behind the verdict weighs nothing
-wants_light : (s now : Server) (incoming : Incoming) (plan : Plan) (operation : Operation) → wants s (operation_for incoming plan) ≡ Asks operation now → weight operation ≡ 0
-wants_light s now incoming (Refuse refusal) operation is = cc
-wants_light s now incoming (Read name) operation is = same_operation is
-wants_light s now incoming (Replace name) operation is = same_operation is
+abbrev IsPaid : Wanted → List Done → Type 0
+IsPaid wanted done = (weight wanted ≤ budget done) × ((event : Done) → origin.ask_of event ≡ wanted → weight wanted + budget (done ++ event ∷ []) ≤ budget done)
 
-says_or_light : (s now : Server) (incoming : Incoming) (plan : Plan) (reply : Option Response) (operation : Operation) → says_or s (operation_for incoming plan) reply ≡ Asks operation now → weight operation ≡ 0
-says_or_light s now incoming plan None operation is = wants_light s now incoming plan operation is
-says_or_light s now incoming plan (Some response) operation is = cc
+-- what is no call
+light : (done : List Done) (wanted : Wanted) → weight wanted ≡ 0 → IsPaid wanted done
+light done wanted is = (omega (arith, is), λ event same. let few = budget_falls done event in omega (arith, is, few))
 
--- nothing but answers was done
-paid_of : (s now : Server) (incoming : Incoming) (lines : List (List ℕ)) (credentials : _) (events : List Event) (operation : Operation) (next : Ask) → after_answers events ≡ [] → next ≡ asked (question_of s incoming credentials) (answers_in events) →
-    by_decision s incoming next [] ≡ Asks operation now → IsPaid operation (calls_left (answers_in events) 3) (CredentialsRead lines credentials ∷ events)
-paid_of s now incoming lines credentials events operation ask.Draw none is moves =
-    let light : weight operation ≡ 0 = same_operation moves in (
-      omega (arith, light),
-      λ event.
-          let size = budget_more lines credentials events event none in
-          let few = left_more event (answers_in events) (calls_left (answers_in events) 3) (λ answer. left_falls (answers_in events) answer 3) in
-          omega (arith, light, size, few),
-    )
-paid_of s now incoming lines credentials events operation (ask.Table shard call) none is moves =
-    let one : weight operation ≡ 1 = same_operation moves in
-    let pays = subst (Pays 3 (answers_in events)) (sym is) (asked_pays (question_of s incoming credentials) (answers_in events)) tt in
-    let some = pays (Words []) in (
-      omega (arith, one, some),
-      λ event.
-          let size = budget_more lines credentials events event none in
-          let few = left_less event (answers_in events) (calls_left (answers_in events) 3) pays in
-          omega (arith, one, size, few),
-    )
+-- a call
+paid_call : (done : List Done) (shard : ℕ) (call : Call) → ((answer : Answer) → suc (calls_left (answers_in (found_in done) ++ answer ∷ []) 3) ≤ calls_left (answers_in (found_in done)) 3) → IsPaid (Inquire (CallTable shard call)) done
+paid_call done shard call pays = ((let some = pays (Words []) in omega (arith, some)), each)
   where
-    left_less : (event : Event) (answers : List Answer) (n : ℕ) → ((answer : Answer) → suc (calls_left (answers ++ answer ∷ []) 3) ≤ n) → suc (left_after (after_answers (event ∷ [])) (answers ++ answers_in (event ∷ []))) ≤ n
-    left_less (Drew words) answers n each = each (Words words)
-    left_less (Called shard call reply) answers n each = each (Replied reply)
-    left_less (CredentialsRead lines credentials) answers n each = let few = each (Words []) in omega (arith, few)
-    left_less (FileRead name answer) answers n each = let few = each (Words []) in omega (arith, few)
-    left_less (FileReplaced name bytes ending) answers n each = let few = each (Words []) in omega (arith, few)
-paid_of s now incoming lines credentials events operation (ask.Verdict verdict) none is moves =
-    let plan = plan_of s.site.root incoming.request verdict in
-    let light = says_or_light s now incoming plan (plan_reply incoming verdict plan []) operation moves in (
-      omega (arith, light),
-      λ event.
-          let size = budget_more lines credentials events event none in
-          let few = left_more event (answers_in events) (calls_left (answers_in events) 3) (λ answer. left_falls (answers_in events) answer 3) in
-          omega (arith, light, size, few),
-    )
+    each : (event : Done) → origin.ask_of event ≡ Inquire (CallTable shard call) → 1 + budget (done ++ event ∷ []) ≤ budget done
+    each (Found (Called n c reply)) same =
+        let size = ap (λ (l : List Answer). calls_left l 3) (answers_more done (Found (Called n c reply))) in
+        let few = pays (Replied reply) in
+        omega (arith, size, few)
+    each (Found (CredentialsRead lines credentials)) same = absurd (let no : ◌≡◌ {A = Wanted} (Inquire (ReadCredentials lines)) (Inquire (CallTable shard call)) = same in cc)
+    each (Found (Drew words)) same = absurd (let no : ◌≡◌ {A = Wanted} (Inquire Draw) (Inquire (CallTable shard call)) = same in cc)
+    each (Behind event) same = absurd (let no : ◌≡◌ {A = Wanted} (origin.ask_of (Behind event)) (Inquire (CallTable shard call)) = same in cc)
 
--- something was done after the answers
-paid_behind : (s now : Server) (incoming : Incoming) (lines : List (List ℕ)) (credentials : _) (events : List Event) (first : Event) (behind : List Event) (operation : Operation) (next : Ask) → after_answers events ≡ first ∷ behind →
-    by_decision s incoming next (first ∷ behind) ≡ Asks operation now → IsPaid operation 0 (CredentialsRead lines credentials ∷ events)
-paid_behind s now incoming lines credentials events first behind operation ask.Draw is moves = cc
-paid_behind s now incoming lines credentials events first behind operation (ask.Table shard call) is moves = cc
-paid_behind s now incoming lines credentials events first behind operation (ask.Verdict verdict) is moves =
-    let plan = plan_of s.site.root incoming.request verdict in
-    let light = says_or_light s now incoming plan (plan_reply incoming verdict plan (first ∷ behind)) operation moves in (
-      omega (arith, light),
-      λ event.
-          let none : budget (CredentialsRead lines credentials ∷ (events ++ event ∷ [])) ≡ 0 =
-          ap (λ (l : List Event). left_after l (answers_in (events ++ event ∷ []))) (after_kept events (event ∷ []) first behind is) in
-          omega (arith, light, none),
-    )
+same_ask : (a b : Wanted) (s now : Server) → ◌≡◌ {A = Moved} (Asks a s) (Asks b now) → a ≡ b
+same_ask a b s now is = cc
 
-paid_by : (s now : Server) (incoming : Incoming) (lines : List (List ℕ)) (credentials : _) (events after : List Event) (operation : Operation) → after_answers events ≡ after →
-    by_decision s incoming (asked (question_of s incoming credentials) (answers_in events)) after ≡ Asks operation now → IsPaid operation (left_after after (answers_in events)) (CredentialsRead lines credentials ∷ events)
-paid_by s now incoming lines credentials events [] operation is moves = paid_of s now incoming lines credentials events operation (asked (question_of s incoming credentials) (answers_in events)) is refl moves
-paid_by s now incoming lines credentials events (first ∷ behind) operation is moves = paid_behind s now incoming lines credentials events first behind operation (asked (question_of s incoming credentials) (answers_in events)) is moves
+-- what a verdict calls for is no call
+behind_light : (move : Move FileOperation Server) (wanted : Wanted) (now : Server) → lifted move ≡ Asks wanted now → weight wanted ≡ 0
+behind_light (Asks operation s) wanted now is = ap weight (sym (same_ask (WantBehind operation) wanted s now is))
+behind_light (Says response s) wanted now is = absurd (let no : ◌≡◌ {A = Moved} (Says response s) (Asks wanted now) = is in cc)
 
-paid : (s now : Server) (incoming : Incoming) (done : List Event) (operation : Operation) → next_move s incoming done ≡ Asks operation now → IsPaid operation (budget done) done
-paid s now incoming [] operation moves =
-    let light : weight operation ≡ 0 = same_operation moves in
-    (omega (arith, light), λ event. let few = first_falls event in omega (arith, light, few))
-  where
-    first_falls : (event : Event) → budget (event ∷ []) ≤ 3
-    first_falls (CredentialsRead lines credentials) = omega arith
-    first_falls (Drew words) = omega arith
-    first_falls (Called shard call reply) = omega arith
-    first_falls (FileRead name answer) = omega arith
-    first_falls (FileReplaced name bytes ending) = omega arith
-paid s now incoming (CredentialsRead lines credentials ∷ events) operation moves = paid_by s now incoming lines credentials events (after_answers events) operation refl moves
-paid s now incoming (Drew words ∷ events) operation moves = cc
-paid s now incoming (Called shard call reply ∷ events) operation moves = cc
-paid s now incoming (FileRead name answer ∷ events) operation moves = cc
-paid s now incoming (FileReplaced name bytes ending ∷ events) operation moves = cc
+paid_ask : (s now : Server) (t : Incoming) (done : List Done) (wanted : Wanted) (credentials : RequestCredentials) (next : Ask) → next ≡ asked (question_of Origin s t credentials) (answers_in (found_in done))
+    → move_by course s t (next_by_ask next) (behind_in done) ≡ Asks wanted now → IsPaid wanted done
+paid_ask s now t done wanted credentials ask.Draw is moves = light done wanted (ap weight (sym (same_ask (Inquire Draw) wanted s now moves)))
+paid_ask s now t done wanted credentials (ask.Table shard call) is moves =
+    let pays = subst (Pays 3 (answers_in (found_in done))) (sym is) (asked_pays (question_of Origin s t credentials) (answers_in (found_in done))) tt in
+    subst (λ (w : Wanted). IsPaid w done) (same_ask (Inquire (CallTable shard call)) wanted s now moves) (paid_call done shard call pays)
+paid_ask s now t done wanted credentials (ask.Verdict verdict) is moves = light done wanted (behind_light (course s t verdict (behind_in done)) wanted now moves)
+
+paid_with : (s now : Server) (t : Incoming) (done : List Done) (wanted : Wanted) (credentials : Option RequestCredentials) → move_by course s t (next_with Origin s t credentials (found_in done)) (behind_in done) ≡ Asks wanted now → IsPaid wanted done
+paid_with s now t done wanted None moves = light done wanted (ap weight (sym (same_ask (Inquire (ReadCredentials _)) wanted s now moves)))
+paid_with s now t done wanted (Some credentials) moves = paid_ask s now t done wanted credentials (asked (question_of Origin s t credentials) (answers_in (found_in done))) refl moves
 
 spends : Spends origin weight budget
-spends = record { pays = λ s incoming done operation now moves. paid s now incoming done operation moves }
+spends = record { pays = λ s t done wanted now moves. paid_with s now t done wanted (credentials_in (found_in done)) moves }
 
 -- the calls in events
-calls_weigh : (events : List Event) → length (calls_in events) ≡ total weight (map operation_of events)
+calls_weigh : (events : List Done) → length (calls_in (found_in events)) ≡ total weight (map origin.ask_of events)
 calls_weigh [] = refl
-calls_weigh (CredentialsRead lines credentials ∷ events) = let below = calls_weigh events in omega (arith, below)
-calls_weigh (Drew words ∷ events) = let below = calls_weigh events in omega (arith, below)
-calls_weigh (Called shard call reply ∷ events) = let below = calls_weigh events in omega (arith, below)
-calls_weigh (FileRead name answer ∷ events) = let below = calls_weigh events in omega (arith, below)
-calls_weigh (FileReplaced name bytes ending ∷ events) = let below = calls_weigh events in omega (arith, below)
+calls_weigh (Found (CredentialsRead lines credentials) ∷ events) = let below = calls_weigh events in omega (arith, below)
+calls_weigh (Found (Drew words) ∷ events) = let below = calls_weigh events in omega (arith, below)
+calls_weigh (Found (Called shard call reply) ∷ events) = let below = calls_weigh events in omega (arith, below)
+calls_weigh (Behind event ∷ events) = let below = calls_weigh events in omega (arith, below)
 
 -- A session that lacks a table's reply has made fewer calls than 3 for each of its requests.
-stalls_early : (u v : TableState) (before now : Server) (a : Account Event) (calls : ℕ) → Stalls origin (LackedBy u v) before now a (TableWorn calls) →
-    (length (calls_in a.events) < CONNECTION_CALLS) × ((shard : ℕ) × (v.seat.noted shard ≡ calls) × (calls ≡ u.seat.limit))
+stalls_early : (u v : TableState) (before now : Server) (a : Account Done) (calls : ℕ) → Stalls origin (LackedBy u v) before now a (TableWorn calls) →
+    (length (calls_in (found_in a.events)) < CONNECTION_CALLS) × ((shard : ℕ) × (v.seat.noted shard ≡ calls) × (calls ≡ u.seat.limit))
 stalls_early u v before now a calls (operation, lacked, completes) =
-    let few = session_weighs origin weight budget spends 4096 before a.input (supply_of a) in
-    let asks : total weight (read_session origin before a).asks ≡ total weight (map operation_of a.events) = ap (total weight) completes.asks in
-    let stop : stop_weight weight (read_session origin before a).stop ≡ 1 = ap (stop_weight weight) completes.stops ∙ ap weight lacked.2 in
+    let few = session_weighs origin weight budget spends 4096 before a.input (supply_of a) completes.asks in
+    let asks : total weight (read_session origin before a).asks ≡ total weight (map origin.ask_of a.events) = ap (total weight) completes.asks in
+    let stop : stop_weight weight (read_session origin before a).stop ≡ 1 =
+    ap (stop_weight weight) completes.stops ∙ ap weight (lacked.1 ∙ ap (λ (i : Inquiry). let wanted : Wanted = Inquire i in wanted) lacked.2.2) in
     let made = calls_weigh a.events in
-    (omega (arith, few, asks, stop, made), (lacked.0, lacked.4, lacked.5))
+    (omega (arith, few, asks, stop, made), (lacked.2.0, lacked.2.4, lacked.2.5))
 
-worn_early : (u v : TableState) (before now : Server) (left left' : Option (List ℕ)) (a : Account Event) (calls : ℕ) (result : Result Served ServeError) → result ≡ Err (Worn calls) → Tells origin (LackedBy u v) before now left left' a result →
-    (length (calls_in a.events) < CONNECTION_CALLS) × ((shard : ℕ) × (v.seat.noted shard ≡ calls) × (calls ≡ u.seat.limit))
+worn_early : (u v : TableState) (before now : Server) (left left' : Option (List ℕ)) (a : Account Done) (calls : ℕ) (result : Result Served ServeError) → result ≡ Err (Worn calls) → Tells origin (LackedBy u v) before now left left' a result →
+    (length (calls_in (found_in a.events)) < CONNECTION_CALLS) × ((shard : ℕ) × (v.seat.noted shard ≡ calls) × (calls ≡ u.seat.limit))
 worn_early u v before now left left' a calls result is tells =
     stalls_early u v before now a calls (subst (λ (r : Result Served ServeError). Tells origin (LackedBy u v) before now left left' a r) is tells)
 
 -- A journal that has room for all calls of a session is never worn by it.
-pub never : (j k : Journal) (u v : TableState) (before now : Server) (left left' : Option (List ℕ)) (a : Account Event) (calls : ℕ) (result : Result Served ServeError) → j.calls ≡ [] → CONNECTION_CALLS ≤ j.limit → u.seat ≡ seat_of j → v.seat ≡ seat_of k →
-    TablePassed u v a.events → Tells origin (LackedBy u v) before now left left' a result → result ≢ Err (Worn calls)
+pub never : (j k : Journal) (u v : TableState) (before now : Server) (left left' : Option (List ℕ)) (a : Account Done) (calls : ℕ) (result : Result Served ServeError) → j.calls ≡ [] → CONNECTION_CALLS ≤ j.limit → u.seat ≡ seat_of j → v.seat ≡ seat_of k →
+    TablePassed u v (found_in a.events) → Tells origin (LackedBy u v) before now left left' a result → result ≢ Err (Worn calls)
 never j k u v before now left left' a calls result fresh room old new passed tells is =
     let early = worn_early u v before now left left' a calls result is tells in
-    never_worn j k (calls_in a.events) early.1.0 fresh (rw (old, new) at passed.calls) (let few = early.0 in omega (arith, few, room))
+    never_worn j k (calls_in (found_in a.events)) early.1.0 fresh (rw (old, new) at passed.calls) (let few = early.0 in omega (arith, few, room))
     (ap (λ s. s.noted early.1.0) (sym new) ∙ early.1.1 ∙ early.1.2 ∙ ap (λ s. s.limit) old)

@@ -1,13 +1,11 @@
--- What is done behind the verdict.
+-- What is done behind the verdict, and what answering a request does.
 use Rattle.std.proofs.Common.{◌≡◌, ◌≢◌, ◌∷◌, [], ◌++◌, ◌≤◌, ℕ, List, false, true, Option, Some, Result, Ok, Err, IfOk, sym, refl, ap, ◌∙◌, subst}
 use Rattle.std.specs.Result.{IsErr, IsErrAnd}
 use Rattle.std.proofs.lemmas.Result.{err_from_is_err_and}
 use Rattle.std.proofs.lemmas.List.{append-nil}
-use Rattle.std.proofs.lemmas.List.Elements.{All-nil, All-cons, All-append}
-use Rattle.auth_decide.specs.Asks.{asked}
-use Rattle.auth_decide.specs.Stages.{Answer}
-use Rattle.auth_decide.specs.declared.verdict.Ask.TheVariants as ask
+use Rattle.std.proofs.lemmas.List.Elements.{All-nil, All-cons}
 use Rattle.auth_decide.specs.declared.verdict.Verdict.{Verdict}
+use Rattle.auth_grammar.specs.declared.items.Role.TheVariants.{Origin}
 use Rattle.auth_grammar.specs.declared.octets.OutOfMemory.{OutOfMemory as NoMemory}
 use Rattle.auth_io.specs.Files.{ReadAnswers, AddsAsked, ReadRose, ReplaceRose, ReplaceSays, IsFailure, contents_after, read_entry}
 use Rattle.auth_io.specs.declared.files.Ending.{Ending}
@@ -17,147 +15,101 @@ use Rattle.auth_io.specs.declared.files.FileAnswer.TheVariants.{Found, Absent, T
 use Rattle.auth_io.specs.declared.files.Replaced.{Replaced}
 use Rattle.auth_io.specs.declared.files.Replaced.TheVariants.{Done, Failed as NotReplaced, OutOfMemory as NoRoom}
 use Rattle.auth_io.proofs.Passing.{AddsAsked_none}
-use Rattle.connection_loop.proofs.Turns.{Stands, at_event, at_response, at_no_memory}
-use Rattle.connection_loop.specs.Machine.{Incoming, Asks, Responds}
+use Rattle.connection_loop.specs.Machine.{Incoming, Asks, Move, Responds, Says}
 use Rattle.connection_loop.specs.declared.responder.RespondError.{RespondError}
-use Rattle.connection_loop.specs.declared.responder.RespondError.TheVariants.{OutOfMemory}
 use Rattle.connection_loop.specs.declared.responder.Response.{Response}
-use Rattle.origin_core.proofs.Decisions.{moves, stands}
+use Rattle.request_deciding.proofs.Machines.{answer_of, behind_events, behind_in-found, behind_of, carried_out, found_events, found_in-found, found_of, gives_up}
+use Rattle.request_deciding.specs.Deciding.{AreWanted, Decides}
+use Rattle.request_deciding.specs.Outside.{LackedBy, TablePassed, TableState}
+use Rattle.request_deciding.specs.declared.events.Event.{Event}
+use Rattle.request_deciding.specs.declared.events.Finding.{Finding}
+use Rattle.request_deciding.specs.declared.server.Server.{Server}
+use Rattle.origin_core.proofs.Requests.{goes_by, says_reply}
 use Rattle.origin_core.specs.Carrying.{CarriesOut, IsCarriedOut}
-use Rattle.origin_core.specs.Deciding.{Decides, IsDecided}
-use Rattle.origin_core.specs.Events.{IsSound, answers_in, after_answers, operation_of, replaced_by}
-use Rattle.origin_core.specs.Laws.{files_none, files_then, table_none, table_then}
-use Rattle.origin_core.specs.Outside.{FilesState, TableState, TablePassed, Passed, LackedBy, outside_of}
+use Rattle.origin_core.specs.Events.{IsSound, operation_of, replaced_by}
+use Rattle.origin_core.specs.Laws.{files_none}
+use Rattle.origin_core.specs.Outside.{FilesPassed, FilesState, Outside, Passed, outside_of}
 use Rattle.origin_core.specs.Replies.{found_reply, plan_of, replaced_reply, status_of, status_reply}
-use Rattle.origin_core.specs.Serving.{carry_out, next_move, operation_for, origin, plan_reply, says_or, wants}
+use Rattle.origin_core.specs.Serving.{carry_out, course, operation_for, origin, plan_reply}
 use Rattle.origin_core.specs.declared.carrying.TheConstants.{FILE_LIMIT}
-use Rattle.origin_core.specs.declared.events.Event.{Event}
-use Rattle.origin_core.specs.declared.events.Event.TheVariants.{CredentialsRead, Drew, Called, FileRead, FileReplaced}
+use Rattle.origin_core.specs.declared.events.FileEvent.{FileEvent}
+use Rattle.origin_core.specs.declared.events.FileEvent.TheVariants.{FileRead, FileReplaced}
+use Rattle.origin_core.specs.declared.events.FileOperation.{FileOperation}
+use Rattle.origin_core.specs.declared.events.FileOperation.TheVariants.{ReadFile, ReplaceFile}
 use Rattle.origin_core.specs.declared.plan.Plan.{Plan}
 use Rattle.origin_core.specs.declared.plan.Plan.TheVariants.{Refuse, Read, Replace}
 use Rattle.origin_core.specs.declared.plan.Refusal.{Refusal}
-use Rattle.origin_core.specs.declared.server.Server.{Server}
 
--- ---- events of files
-
-abbrev IsOfFile : Event → Type 0
-IsOfFile (CredentialsRead lines credentials) = ⊥
-IsOfFile (Drew words) = ⊥
-IsOfFile (Called shard call reply) = ⊥
-IsOfFile (FileRead name answer) = Unit {0}
-IsOfFile (FileReplaced name bytes ending) = Unit {0}
-
--- what a plan wants is done with a file
-of_file : (incoming : Incoming) (plan : Plan) (event : Event) → operation_for incoming plan ≡ Some (operation_of event) → IsOfFile event
-of_file incoming plan (FileRead name answer) is = tt
-of_file incoming plan (FileReplaced name bytes ending) is = tt
-of_file incoming (Refuse refusal) (CredentialsRead lines credentials) is = cc
-of_file incoming (Refuse refusal) (Drew words) is = cc
-of_file incoming (Refuse refusal) (Called shard call reply) is = cc
-of_file incoming (Read name) (CredentialsRead lines credentials) is = cc
-of_file incoming (Read name) (Drew words) is = cc
-of_file incoming (Read name) (Called shard call reply) is = cc
-of_file incoming (Replace name) (CredentialsRead lines credentials) is = cc
-of_file incoming (Replace name) (Drew words) is = cc
-of_file incoming (Replace name) (Called shard call reply) is = cc
-
-file_after : (event : Event) → IsOfFile event → (after_answers (event ∷ []) ≡ event ∷ []) × (answers_in (event ∷ []) ≡ [])
-file_after (FileRead name answer) h = (refl, refl)
-file_after (FileReplaced name bytes ending) h = (refl, refl)
-file_after (CredentialsRead lines credentials) h = absurd h
-file_after (Drew words) h = absurd h
-file_after (Called shard call reply) h = absurd h
-
-file_table : (event : Event) → IsOfFile event → (table : TableState) → TablePassed table table (event ∷ [])
-file_table (FileRead name answer) h table = let none = table_none table in record { drawn = none.drawn; later = none.later; calls = none.calls; within = none.within }
-file_table (FileReplaced name bytes ending) h table = let none = table_none table in record { drawn = none.drawn; later = none.later; calls = none.calls; within = none.within }
-file_table (CredentialsRead lines credentials) h table = absurd h
-file_table (Drew words) h table = absurd h
-file_table (Called shard call reply) h table = absurd h
-
-carried_table : (incoming : Incoming) (plan : Plan) (events : List Event) → IsCarriedOut incoming plan events → (table : TableState) → TablePassed table table events
-carried_table incoming plan [] is table = table_none table
-carried_table incoming plan (event ∷ []) is table = file_table event (of_file incoming plan event is) table
-carried_table incoming plan (event ∷ more ∷ events) is table = absurd is
-
--- ---- moves behind the verdict
+-- ---- what a plan wants
 
 -- before anything was done with a file, a plan asks for what it wants
-asks_file : (s : Server) (incoming : Incoming) (verdict : Verdict) (plan : Plan) (event : Event) → operation_for incoming plan ≡ Some (operation_of event) → carry_out s incoming verdict plan [] ≡ Asks (operation_of event) s
+asks_file : (s : Server) (incoming : Incoming) (verdict : Verdict) (plan : Plan) (event : FileEvent) → operation_for incoming plan ≡ Some (operation_of event) → carry_out s incoming verdict plan [] ≡ Asks (operation_of event) s
 asks_file s incoming verdict (Refuse refusal) event is = cc
-asks_file s incoming verdict (Read name) event is = ap (wants s) is
-asks_file s incoming verdict (Replace name) event is = ap (wants s) is
+asks_file s incoming verdict (Read name) event is =
+    let same : Some (ReadFile name) ≡ Some (operation_of event) = is in
+    let one : ReadFile name ≡ operation_of event = cc in
+    ap (λ (o : FileOperation). let move : Move FileOperation Server = Asks o s in move) one
+asks_file s incoming verdict (Replace name) event is =
+    let same : Some (ReplaceFile name incoming.request.body) ≡ Some (operation_of event) = is in
+    let one : ReplaceFile name incoming.request.body ≡ operation_of event = cc in
+    ap (λ (o : FileOperation). let move : Move FileOperation Server = Asks o s in move) one
 
 abbrev plan_for : Server → Incoming → Verdict → Plan
 plan_for s incoming verdict = plan_of s.site.root incoming.request verdict
 
--- what comes next once the verdict is there
-moves_behind : {s : Server} {incoming : Incoming} {events : List Event} {verdict : Verdict} → IsDecided s incoming events verdict → (more : List Event) → answers_in more ≡ [] → after_answers more ≡ more →
-    next_move s incoming (events ++ more) ≡ carry_out s incoming verdict (plan_for s incoming verdict) more
-moves_behind {s} {incoming} {events} {verdict} d more none all =
-    moves d.has more (ask.Verdict verdict) (d.asks ∙ ap (asked _) (sym (append-nil (answers_in d.answered)) ∙ ap (λ (l : List Answer). answers_in d.answered ++ l) (sym none)))
-    ∙ ap (carry_out s incoming verdict (plan_for s incoming verdict)) all
+are_wanted : (s : Server) (incoming : Incoming) (verdict : Verdict) (events : List FileEvent) → IsCarriedOut incoming (plan_for s incoming verdict) events → AreWanted course operation_of s incoming verdict [] events
+are_wanted s incoming verdict [] is = tt
+are_wanted s incoming verdict (event ∷ []) is = (asks_file s incoming verdict (plan_for s incoming verdict) event is, tt)
+are_wanted s incoming verdict (event ∷ more ∷ events) is = absurd is
 
-carried_alone : (incoming : Incoming) (plan : Plan) (events : List Event) → IsCarriedOut incoming plan events → (answers_in events ≡ []) × (after_answers events ≡ events)
-carried_alone incoming plan [] is = (refl, refl)
-carried_alone incoming plan (event ∷ []) is = let at = file_after event (of_file incoming plan event is) in (at.1, at.0)
-carried_alone incoming plan (event ∷ more ∷ events) is = absurd is
+is_said : (s : Server) (incoming : Incoming) (verdict : Verdict) (events : List FileEvent) (result : Result Response NoMemory) → IfOk result (λ response. plan_reply incoming verdict (plan_for s incoming verdict) events ≡ Some response) → IfOk result (λ response. course s incoming verdict events ≡ Says response s)
+is_said s incoming verdict events (Ok response) replies = says_reply s incoming verdict (plan_for s incoming verdict) events response replies
+is_said s incoming verdict events (Err error) replies = tt
 
--- the request stands so after the plan's events too
-stands_behind : {s : Server} {incoming : Incoming} {events : List Event} {verdict : Verdict} → IsDecided s incoming events verdict → (more : List Event) → IsCarriedOut incoming (plan_for s incoming verdict) more →
-    Stands origin s incoming (events ++ more)
-stands_behind {s} {incoming} {events} {verdict} d [] is = subst (λ (l : List Event). Stands origin s incoming l) (sym (append-nil events)) (stands d.has)
-stands_behind {s} {incoming} {events} {verdict} d (event ∷ []) is =
-    at_event origin s s incoming events event (stands d.has)
-    (ap (next_move s incoming) (sym (append-nil events)) ∙ moves_behind d [] refl refl ∙ asks_file s incoming verdict (plan_for s incoming verdict) event is)
-stands_behind {s} {incoming} {events} {verdict} d (event ∷ other ∷ more) is = absurd is
+-- ---- a request
 
-abbrev told : Result Response NoMemory → Result Response RespondError
-told (Ok response) = Ok response
-told (Err error) = Err OutOfMemory
+abbrev Answers : Outside → Outside → Server → Incoming → Result Response RespondError → Type 0
+Answers u v s incoming result = (events : List (Event FileEvent)) × Passed u v events × Responds origin (LackedBy u.table v.table) s s incoming events result
 
-responds : (before now : TableState) {s : Server} {incoming : Incoming} {events : List Event} {verdict : Verdict} → IsDecided s incoming events verdict → (more : List Event) → IsCarriedOut incoming (plan_for s incoming verdict) more →
-    (result : Result Response NoMemory) → IfOk result (λ response. plan_reply incoming verdict (plan_for s incoming verdict) more ≡ Some response) → Responds origin (LackedBy before now) s s incoming (events ++ more) (told result)
-responds before now {s = s} {incoming = incoming} {events = events} {verdict = verdict} d more is (Ok response) replies =
-    let plan = plan_for s incoming verdict in
-    let alone = carried_alone incoming plan more is in
-    at_response origin s s incoming (events ++ more) response (stands_behind d more is) (moves_behind d more alone.0 alone.1 ∙ ap (says_or s (operation_for incoming plan)) replies)
-responds before now {s = s} {incoming = incoming} {events = events} {verdict = verdict} d more is (Err error) replies = at_no_memory origin s incoming (events ++ more) (stands_behind d more is)
+passed_by : (u v : Outside) (found : List Finding) (events : List FileEvent) → TablePassed u.table v.table found → FilesPassed u.files v.files events → Passed u v (found_events found ++ behind_events events)
+passed_by u v found events table files = record {
+  files = subst (λ (l : List FileEvent). FilesPassed u.files v.files l) (sym (behind_of found events)) files;
+  table = subst (λ (l : List Finding). TablePassed u.table v.table l) (sym (found_of found events)) table;
+}
 
 -- A decision, and its plan carried out, answer the request.
-pub answers : (files files' : FilesState) (table table' : TableState) (s : Server) (incoming : Incoming) (verdict : Verdict) (root : List ℕ) (result : Result Response NoMemory) → root ≡ s.site.root → Decides table table' s incoming (Ok verdict) →
-    CarriesOut files files' incoming verdict (plan_of root incoming.request verdict) result →
-    (events : List Event) × Passed (outside_of files table) (outside_of files' table') events × Responds origin (LackedBy table table') s s incoming events (told result)
+pub answers : (files files' : FilesState) (table table' : TableState) (s : Server) (incoming : Incoming) (verdict : Verdict) (root : List ℕ) (result : Result Response NoMemory) → root ≡ s.site.root → Decides table table' Origin s incoming (Ok verdict) →
+    CarriesOut files files' incoming verdict (plan_of root incoming.request verdict) result → Answers (outside_of files table) (outside_of files' table') s incoming (answer_of result)
 answers files files' table table' s incoming verdict root result same d at_root =
-    let plan = plan_for s incoming verdict in
     let c = subst (λ (r : List ℕ). CarriesOut files files' incoming verdict (plan_of r incoming.request verdict) result) same at_root in (
-      d.events ++ c.events,
-      record {
-        sound = All-append IsSound d.events c.events d.sound c.sound;
-        files = files_then files files files' d.events c.events (d.no_files files) c.passed;
-        table = table_then table table' table' d.events c.events d.passed (carried_table incoming plan c.events c.carried table');
-      },
-      responds table table' d.ends c.events c.carried result c.replies,
+      found_events d.found ++ behind_events c.events,
+      passed_by (outside_of files table) (outside_of files' table') d.found c.events d.passed c.passed,
+      carried_out origin Origin course operation_of s incoming (goes_by s incoming) table table' verdict d c.events (are_wanted s incoming verdict c.events c.carried) result (is_said s incoming verdict c.events result c.replies),
     )
 
 -- A decision that ends without a verdict ends the request.
-gives_up : (files : FilesState) (table table' : TableState) (s : Server) (incoming : Incoming) (error : RespondError) → Decides table table' s incoming (Err error) →
-    (events : List Event) × Passed (outside_of files table) (outside_of files table') events × Responds origin (LackedBy table table') s s incoming events (Err error)
-gives_up files table table' s incoming error d = (d.events, record { sound = d.sound; files = d.no_files files; table = d.passed }, d.ends)
+gives_none : (files : FilesState) (table table' : TableState) (s : Server) (incoming : Incoming) (error : RespondError) → Decides table table' Origin s incoming (Err error) → Answers (outside_of files table) (outside_of files table') s incoming (Err error)
+gives_none files table table' s incoming error d = (
+  found_events d.found,
+  record {
+    files = subst (λ (l : List FileEvent). FilesPassed files files l) (sym (behind_in-found FileEvent d.found)) (files_none files);
+    table = subst (λ (l : List Finding). TablePassed table table' l) (sym (found_in-found FileEvent d.found)) d.passed;
+  },
+  gives_up origin Origin course operation_of s incoming (goes_by s incoming) table table' error d,
+)
 
 -- the same for any answer that is that error
-pub gives_up_as : (files : FilesState) (table table' : TableState) (s : Server) (incoming : Incoming) (error : RespondError) (result : Result Response RespondError) → IsErrAnd result (λ e. e ≡ error) → Decides table table' s incoming (Err error) →
-    (events : List Event) × Passed (outside_of files table) (outside_of files table') events × Responds origin (LackedBy table table') s s incoming events result
+pub gives_up_as : (files : FilesState) (table table' : TableState) (s : Server) (incoming : Incoming) (error : RespondError) (result : Result Response RespondError) → IsErrAnd result (λ e. e ≡ error) → Decides table table' Origin s incoming (Err error) →
+    Answers (outside_of files table) (outside_of files table') s incoming result
 gives_up_as files table table' s incoming error result is d =
-    let whole = gives_up files table table' s incoming error d in
     let known = err_from_is_err_and result is in
-    (whole.0, whole.1, subst (λ (r : Result Response RespondError). Responds origin (LackedBy table table') s s incoming whole.0 r) (sym (known.1 ∙ ap Err known.2)) whole.2)
+    subst (λ (r : Result Response RespondError). Answers (outside_of files table) (outside_of files table') s incoming r) (sym (known.1 ∙ ap Err known.2)) (gives_none files table table' s incoming error d)
 
 -- ---- carrying a plan out
 
 -- A plan that wants no file.
 pub refused : (files : FilesState) (incoming : Incoming) (verdict : Verdict) (plan : Plan) (result : Result Response NoMemory) → IfOk result (λ response. plan_reply incoming verdict plan [] ≡ Some response) → CarriesOut files files incoming verdict plan result
-refused files incoming verdict plan result replies = record { events = []; sound = All-nil IsSound; passed = files_none files; carried = tt; replies = replies }
+refused files incoming verdict plan result replies = record { events = []; passed = files_none files; carried = tt; replies = replies }
 
 some_if : (reply : Response) (result : Result Response NoMemory) → IfOk result (λ response. response ≡ reply) → IfOk result (λ response. Some reply ≡ Some response)
 some_if reply (Ok response) is = ap Some (sym is)
@@ -181,8 +133,7 @@ none_done : (before now : FilesState) (incoming : Incoming) (verdict : Verdict) 
 none_done before now incoming verdict plan (Ok response) contents asked faults later none = absurd none
 none_done before now incoming verdict plan (Err error) contents asked faults later none = record {
   events = [];
-  sound = All-nil IsSound;
-  passed = record { contents = contents; asked = asked; faults = faults; later = later };
+  passed = record { sound = All-nil IsSound; contents = contents; asked = asked; faults = faults; later = later };
   carried = tt;
   replies = tt;
 }
@@ -197,8 +148,8 @@ read_so : (before now : FilesState) (incoming : Incoming) (verdict : Verdict) (n
     IfOk result (λ response. response ≡ found_reply incoming verdict answer) → CarriesOut before now incoming verdict (Read name) result
 read_so before now incoming verdict name answer result sound answers stays asked later rose replies = record {
   events = FileRead name answer ∷ [];
-  sound = All-cons IsSound (FileRead name answer) [] sound (All-nil IsSound);
   passed = record {
+    sound = All-cons IsSound (FileRead name answer) [] sound (All-nil IsSound);
     contents = (answers, stays);
     asked = subst (λ (l : List (List ℕ × Ending)). AddsAsked before.asked now.asked l) (sym (append-nil (read_entry name answer))) asked;
     faults = (now.faults, rose, refl);
@@ -231,8 +182,8 @@ replaced_so : (before now : FilesState) (incoming : Incoming) (verdict : Verdict
 replaced_so before now incoming verdict name ending answer result is contents asked later rose replies =
     let event = FileReplaced name incoming.request.body ending in record {
       events = event ∷ [];
-      sound = All-cons IsSound event [] tt (All-nil IsSound);
       passed = record {
+        sound = All-cons IsSound event [] tt (All-nil IsSound);
         contents = contents;
         asked = asked;
         faults = (now.faults, subst (λ (x : Replaced). ReplaceRose x before.faults now.faults) is rose, refl);

@@ -23,14 +23,19 @@ use Rattle.http_wire.specs.Requests.{Whole, front}
 use Rattle.nonce_shard.specs.Replies.{reply}
 use Rattle.nonce_shard.specs.Seat.{Seat}
 use Rattle.nonce_shard.specs.declared.sizes.Sizes.{Sizes}
+use Rattle.request_deciding.specs.Outside.{LackedBy}
+use Rattle.request_deciding.specs.Serving.{question_of}
+use Rattle.request_deciding.specs.declared.events.Event.{Event}
+use Rattle.request_deciding.specs.declared.events.Event.TheVariants.{Found, Behind}
+use Rattle.request_deciding.specs.declared.events.Finding.{Finding}
+use Rattle.request_deciding.specs.declared.events.Finding.TheVariants.{CredentialsRead, Drew, Called}
+use Rattle.request_deciding.specs.declared.server.Server.{Server}
 use Rattle.spaces_map.specs.declared.space.Space.{Space}
 use Rattle.origin_core.specs.Carrying.{IsCarriedOut}
 use Rattle.origin_core.specs.Replies.{plan_of}
-use Rattle.origin_core.specs.Outside.{LackedBy, Outside, Passed}
-use Rattle.origin_core.specs.Serving.{origin, plan_reply, question_of}
-use Rattle.origin_core.specs.declared.events.Event.{Event}
-use Rattle.origin_core.specs.declared.events.Event.TheVariants.{CredentialsRead, Drew, Called}
-use Rattle.origin_core.specs.declared.server.Server.{Server}
+use Rattle.origin_core.specs.Outside.{Outside, Passed}
+use Rattle.origin_core.specs.Serving.{origin, plan_reply}
+use Rattle.origin_core.specs.declared.events.FileEvent.{FileEvent}
 
 -- ---- one request
 
@@ -41,17 +46,20 @@ pub record ServedRequest : Type 0 where
   pub credentials : RequestCredentials
   pub steps : List Step
   pub verdict : Verdict
-  pub file : List Event
+  pub file : List FileEvent
   pub response : Response
 
-abbrev pub event_of : Sizes → Step → Event
-event_of sizes (DrewStep words) = Drew words
-event_of sizes (CalledStep shard before call) = Called shard call (reply sizes shard before call)
+abbrev pub finding_of : Sizes → Step → Finding
+finding_of sizes (DrewStep words) = Drew words
+finding_of sizes (CalledStep shard before call) = Called shard call (reply sizes shard before call)
+
+-- all that was found to decide on it
+abbrev pub findings_of : Sizes → ServedRequest → List Finding
+findings_of sizes r = CredentialsRead (credentials_lines Origin r.incoming.request) r.credentials ∷ map (finding_of sizes) r.steps
 
 -- all that was done for it
-abbrev pub events_of : Sizes → ServedRequest → List Event
-events_of sizes r =
-    CredentialsRead (credentials_lines Origin r.incoming.request) r.credentials ∷ (map (event_of sizes) r.steps ++ r.file)
+abbrev pub events_of : Sizes → ServedRequest → List (Event FileEvent)
+events_of sizes r = map Found (findings_of sizes r) ++ map Behind r.file
 
 -- The response is that of the verdict, with the file that it calls for. A well-formed request of Digest is admitted, as its user,
 -- exactly where its credentials are valid, and one that ends an exchange of SCRAM-SHA-256 or uses a finished one again exactly
@@ -60,11 +68,11 @@ events_of sizes r =
 pub record IsRightlyAnswered (sizes : Sizes) (s : Server) (r : ServedRequest) : Type 0 where
   pub file : IsCarriedOut r.incoming (plan_of s.site.root r.incoming.request r.verdict) r.file
   pub answered : plan_reply r.incoming r.verdict (plan_of s.site.root r.incoming.request r.verdict) r.file ≡ Some r.response
-  pub exactly : (space : Space) (c : Candidate) → IsWellFormed (question_of s r.incoming r.credentials) space c
-      → Admits c.user r.verdict ↔ AreValid sizes (question_of s r.incoming r.credentials) space c r.steps
-  pub by_try : TriesRightly sizes (question_of s r.incoming r.credentials) r.steps r.verdict
-  pub again : ReusesRightly sizes (question_of s r.incoming r.credentials) r.steps r.verdict
-  pub no_other : (user : List ℕ) → Admits user r.verdict → IsAdmitted sizes (question_of s r.incoming r.credentials) user r.steps
+  pub exactly : (space : Space) (c : Candidate) → IsWellFormed (question_of Origin s r.incoming r.credentials) space c
+      → Admits c.user r.verdict ↔ AreValid sizes (question_of Origin s r.incoming r.credentials) space c r.steps
+  pub by_try : TriesRightly sizes (question_of Origin s r.incoming r.credentials) r.steps r.verdict
+  pub again : ReusesRightly sizes (question_of Origin s r.incoming r.credentials) r.steps r.verdict
+  pub no_other : (user : List ℕ) → Admits user r.verdict → IsAdmitted sizes (question_of Origin s r.incoming r.credentials) user r.steps
 
 -- ---- one after the other
 
@@ -73,7 +81,7 @@ pub record Stretch : Type 0 where
   pub input : List ℕ
   pub output : List ℕ
   pub moments : List ℕ
-  pub events : List Event
+  pub events : List (Event FileEvent)
 
 -- The request stands whole at the front of the input. It has a moment and events of its own, and what is written for it is the
 -- `100 Continue` that is due and the response. What follows it is this.
@@ -101,12 +109,12 @@ AreServed sizes s (r ∷ served) from = (then : Stretch) × Serves sizes s r fro
 abbrev pub IsReadOf : List ℕ → Option (List ℕ) → List ℕ → Type 0
 IsReadOf read left input = (input ≡ read) ⊎ ((more : List ℕ) × (left ≡ Some more) × (input ≡ read ++ more))
 
-abbrev pub stretch_of : Account Event → List ℕ → List ℕ → Stretch
+abbrev pub stretch_of : Account (Event FileEvent) → List ℕ → List ℕ → Stretch
 stretch_of a input output = record { input = input; output = output; moments = a.moments; events = a.events }
 
 -- The requests of a connection that were answered. Their calls stand in the lists of the table's shards as the seat has seen them.
 -- What was written is all of their replies, or the front of it.
-pub record ServesRequests (old new : Seat) (left : Option (List ℕ)) (s : Server) (a : Account Event)
+pub record ServesRequests (old new : Seat) (left : Option (List ℕ)) (s : Server) (a : Account (Event FileEvent))
     (result : Result Served ServeError) : Type 0 where
   pub served : List ServedRequest
   pub input : List ℕ

@@ -3,7 +3,6 @@ pub mod Replies
 pub mod Events
 pub mod Outside
 pub mod Serving
-pub mod Deciding
 pub mod Carrying
 pub mod Laws
 pub mod Admissions

@@ -1,12 +1,8 @@
 -- The reply to a request, by its verdict and what its file gave (RFC 9110 sections 9.3, 11.6 and 15,
 -- RFC 7804 section 5).
-use Rattle.std.specs.Prelude.{ℕ, Bool, true, false, ◌==◌, bytes_eq, if◌then◌else◌, List, [], ◌∷◌, ◌++◌, Option, Some, None, map, codes}
-use Rattle.auth_grammar.specs.Writing.{items_text, params_text}
-use Rattle.auth_grammar.specs.declared.items.Item.{Item}
-use Rattle.auth_grammar.specs.declared.items.Quoting.TheVariants as quoting
-use Rattle.auth_decide.specs.Infos.{info_of}
+use Rattle.std.specs.Prelude.{ℕ, Bool, true, false, ◌==◌, bytes_eq, if◌then◌else◌, List, [], ◌∷◌, ◌++◌, Option, Some, None, codes}
+use Rattle.auth_grammar.specs.declared.items.Role.TheVariants.{Origin}
 use Rattle.auth_decide.specs.Paths.{path_of}
-use Rattle.auth_decide.specs.declared.info.Proof.{Proof}
 use Rattle.auth_decide.specs.declared.verdict.Verdict.{Verdict}
 use Rattle.auth_decide.specs.declared.verdict.Verdict.TheVariants.{Admit, Open, Challenge, Continue, Bad}
 use Rattle.auth_io.specs.declared.files.FileAnswer.{FileAnswer}
@@ -18,6 +14,7 @@ use Rattle.connection_loop.specs.declared.responder.Response.{Response}
 use Rattle.http_wire.specs.Answers.{answer_text, status_body}
 use Rattle.http_wire.specs.declared.pair.Pair.{Pair}
 use Rattle.http_wire.specs.declared.request.Request.{Request}
+use Rattle.request_deciding.specs.Lines.{is_admitted, pair, verdict_lines}
 use Rattle.origin_core.specs.Names.{file_name}
 use Rattle.origin_core.specs.declared.method.Method.{Method}
 use Rattle.origin_core.specs.declared.method.Method.TheVariants.{Get, Head, Put, Other}
@@ -25,10 +22,6 @@ use Rattle.origin_core.specs.declared.plan.Plan.{Plan}
 use Rattle.origin_core.specs.declared.plan.Plan.TheVariants.{Refuse, Read, Replace}
 use Rattle.origin_core.specs.declared.plan.Refusal.{Refusal}
 use Rattle.origin_core.specs.declared.plan.Refusal.TheVariants.{Bad as BadForm, Challenged, Forbidden, NotFound, NotAllowed}
-use Rattle.origin_core.specs.declared.incoming.IncomingRequest.{IncomingRequest}
-
-abbrev pub incoming_of : IncomingRequest → Incoming
-incoming_of r = record { request = r.request.now; last = r.last; moment = r.moment }
 
 -- the method of a request, whose case matters
 abbrev pub method_of : List ℕ → Method
@@ -44,23 +37,6 @@ is_head method = false
 
 -- ---- lines
 
-abbrev pub pair : List ℕ → List ℕ → Pair
-pair name value = record { name = name; value = value }
-
-abbrev pub item_line : List ℕ → Item → Pair
-item_line name item = pair name (items_text quoting.Challenge (item ∷ []))
-
-abbrev pub info_line : Proof → List ℕ → Pair
-info_line proof body = pair (codes "Authentication-Info") (params_text quoting.Info (info_of proof body))
-
--- what a reply says of the authentication: what the server proves over the body that it sends, or what it offers
-abbrev pub verdict_lines : Verdict → List ℕ → List Pair
-verdict_lines (Admit user proof) body = info_line proof body ∷ []
-verdict_lines (Open items) body = map (item_line (codes "Optional-WWW-Authenticate")) items
-verdict_lines (Challenge items) body = map (item_line (codes "WWW-Authenticate")) items
-verdict_lines (Continue item) body = item_line (codes "WWW-Authenticate") item ∷ []
-verdict_lines (Bad why) body = []
-
 abbrev pub allow_line : Pair
 allow_line = pair (codes "Allow") (codes "GET, HEAD, PUT")
 
@@ -72,13 +48,6 @@ allow_lines status = if status == 405 then allow_line ∷ [] else []
 abbrev pub sent_body : Bool → List ℕ → List ℕ
 sent_body to_head body = if to_head then [] else body
 
-abbrev pub is_admitted : Verdict → Bool
-is_admitted (Admit user proof) = true
-is_admitted (Open items) = false
-is_admitted (Challenge items) = false
-is_admitted (Continue item) = false
-is_admitted (Bad why) = false
-
 -- ---- replies
 
 -- a reply with a body
@@ -89,7 +58,7 @@ reply_with t verdict status body =
       text = answer_text (record {
         status = status;
         moment = t.moment;
-        lines = allow_lines status ++ verdict_lines verdict (sent_body to_head body);
+        lines = allow_lines status ++ verdict_lines Origin verdict (sent_body to_head body);
         body = body;
         to_head = to_head;
         close = t.last;

@@ -5,7 +5,7 @@ ghost use Rattle.connection_loop.specs.Account.{link_of};
 ghost use Rattle.nonce_shard.specs.Journal.{seat_of};
 ghost use Rattle.origin_core.specs.Admissions.{ServesConnection};
 ghost use Rattle.origin_core.specs.Outside.{outside_at};
-ghost use Rattle.origin_core.specs.Serving.{server};
+ghost use Rattle.request_deciding.specs.Serving.{server};
 
 use crate::serving::serve_connection;
 use auth_decide::Site;

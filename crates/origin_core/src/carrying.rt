@@ -2,15 +2,16 @@
 ghost use Rattle.std.specs.Prelude.{◌≡◌, ◌≢◌, IfOk};
 ghost use Rattle.origin_core.specs.Carrying.{CarriesOut};
 ghost use Rattle.origin_core.specs.Outside.{files_state};
-ghost use Rattle.origin_core.specs.Replies.{incoming_of, found_reply, replaced_reply, plan_of};
+ghost use Rattle.origin_core.specs.Replies.{found_reply, replaced_reply, plan_of};
+ghost use Rattle.request_deciding.specs.Serving.{incoming_of};
 
-use crate::incoming::IncomingRequest;
 use crate::plan::{Plan, plan_of};
 use crate::replies::{reply_with, status_reply};
 use auth_decide::Verdict;
 use auth_grammar::{Octets, OutOfMemory};
 use auth_io::{FileAnswer, Files, Replaced};
 use connection_loop::Response;
+use request_deciding::IncomingRequest;
 use std::alloc::Global;
 
 /// The most bytes of a file that is served.

@@ -1,18 +1,10 @@
-//! What is asked of the outside for a request, and what it did.
-use auth_decide::RequestCredentials;
-use auth_grammar::{Octets, OctetsList};
+//! What is done with files for a request that is decided.
+use auth_grammar::Octets;
 use auth_io::{Ending, FileAnswer};
-use nonce_shard::{Call, Reply};
 
-/// What a request may want from the outside. Contracts alone have it.
+/// What a verdict may call for. Contracts alone have it.
 #[derive(Drop)]
-pub enum Operation {
-    /// To read what the lines of the field with credentials say.
-    ReadCredentials { lines: OctetsList },
-    /// To draw sixteen random bytes.
-    Draw,
-    /// To make this call on this shard of the nonce table.
-    CallTable { shard: u16, call: Call },
+pub enum FileOperation {
     /// To read this file.
     ReadFile { name: Octets },
     /// To make these bytes this file's whole content.
@@ -21,22 +13,7 @@ pub enum Operation {
 
 /// An operation that was done, with what came of it. Contracts alone have it.
 #[derive(Drop)]
-pub enum Event {
-    /// The lines of the field with credentials were read, as what they say.
-    CredentialsRead {
-        lines: OctetsList,
-        credentials: RequestCredentials,
-    },
-    /// Sixteen random bytes were drawn.
-    Drew {
-        words: [u8; 16],
-    },
-    /// The shard of this number of the nonce table gave this reply to the call.
-    Called {
-        shard: u16,
-        call: Call,
-        reply: Reply,
-    },
+pub enum FileEvent {
     /// The file of this name was read.
     FileRead {
         name: Octets,

@@ -3,22 +3,17 @@
 
 mod alone;
 mod carrying;
-mod deciding;
 mod events;
-mod incoming;
 mod method;
 mod names;
 mod plan;
 mod replies;
-mod server;
 mod serving;
 
 pub use alone::{CONNECTION_CALLS, serve_alone};
 pub use carrying::{FILE_LIMIT, reply_for};
-pub use events::{Event, Operation};
-pub use incoming::IncomingRequest;
+pub use events::{FileEvent, FileOperation};
 pub use names::file_name;
-pub use server::Server;
 pub use serving::serve_connection;
 
 #[cfg(test)]

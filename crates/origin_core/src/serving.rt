@@ -4,21 +4,22 @@ ghost use Rattle.auth_io.specs.Causes.{Rose};
 ghost use Rattle.connection_loop.specs.Account.{link_of};
 ghost use Rattle.connection_loop.specs.Machine.{Responds};
 ghost use Rattle.origin_core.specs.Admissions.{ServesConnection};
-ghost use Rattle.origin_core.specs.Outside.{Passed, LackedBy, outside_at};
-ghost use Rattle.origin_core.specs.Replies.{incoming_of};
-ghost use Rattle.origin_core.specs.Serving.{origin, server};
-ghost use Rattle.origin_core.specs.declared.events.Event.{Event};
+ghost use Rattle.origin_core.specs.Outside.{Passed, outside_at};
+ghost use Rattle.origin_core.specs.Serving.{origin};
+ghost use Rattle.origin_core.specs.declared.events.FileEvent.{FileEvent};
+ghost use Rattle.request_deciding.specs.Outside.{LackedBy};
+ghost use Rattle.request_deciding.specs.Serving.{incoming_of, server};
+ghost use Rattle.request_deciding.specs.declared.events.Event.{Event};
 
 use crate::carrying::reply_for;
-use crate::deciding::decide;
-use crate::events::{Event, Operation};
-use crate::incoming::IncomingRequest;
-use crate::server::Server;
+use crate::events::{FileEvent, FileOperation};
 use auth_decide::Site;
+use auth_grammar::Role;
 use auth_io::{Clock, Files, Link, Words};
 use connection_loop::{RespondError, Responder, Response, ServeError, Served, drive};
 use http_wire::Request;
 use nonce_shard::TableSeat;
+use request_deciding::{Event, IncomingRequest, Operation, Server, decide};
 use std::alloc::Global;
 
 /// Decides on a request and answers it.
@@ -32,11 +33,11 @@ fn answer<F: Files, W: Words, T: TableSeat>(
 ) -> Result<Response, RespondError>
     ensures answers { let at = outside_at F.contents F.asked F.faults W.drawn W.faults T.seat in
         let server_now = server site.now (T.seat seat.old).shards in
-        (events : List Event) × Passed (at files.old random.old seat.old) (at files.new random.new seat.new) events
+        (events : List (Event FileEvent)) × Passed (at files.old random.old seat.old) (at files.new random.new seat.new) events
         × Responds origin (LackedBy (at files.old random.old seat.old).table (at files.new random.new seat.new).table)
         server_now server_now (incoming_of incoming.now) events result }
 {
-    let verdict = decide(alloc, incoming, site, random, seat)?;
+    let verdict = decide(alloc, Role::Origin, incoming, site, random, seat)?;
     match reply_for(alloc, incoming, site.root.bytes(), verdict, files) {
         Ok(response) => Ok(response),
         Err(_) => Err(RespondError::OutOfMemory),
@@ -56,15 +57,19 @@ impl<'s, 'f, 'w, 't, F: Files, W: Words, T: TableSeat> Responder
     for Parts<'s, 'f, 'w, 't, F, W, T> {
     ghost use Rattle.std.specs.Prelude.{◌≡◌};
     ghost use Rattle.std.proofs.Common.{refl, ◌∙◌};
-    ghost use Rattle.origin_core.specs.Outside.{Passed, LackedBy, outside_at};
-    ghost use Rattle.origin_core.specs.Serving.{origin, server};
-    ghost use Rattle.origin_core.specs.Laws.{passed_none, passed_then, lacked_later};
+    ghost use Rattle.request_deciding.specs.Findings.{found_in};
+    ghost use Rattle.request_deciding.specs.Laws.{lacked_later};
+    ghost use Rattle.request_deciding.specs.Outside.{LackedBy};
+    ghost use Rattle.request_deciding.specs.Serving.{server};
+    ghost use Rattle.origin_core.specs.Outside.{Passed, outside_at};
+    ghost use Rattle.origin_core.specs.Serving.{origin};
+    ghost use Rattle.origin_core.specs.Laws.{passed_none, passed_then};
 
     type State = Server;
 
-    type Ask = Operation;
+    type Ask = Operation<FileOperation>;
 
-    type Event = Event;
+    type Event = Event<FileEvent>;
 
     ghost machine = { origin };
 
@@ -111,7 +116,7 @@ impl<'s, 'f, 'w, 't, F: Files, W: Words, T: TableSeat> Responder
 
     ghost lacked_later = { λ a b c xs p. let at = outside_at F.contents F.asked F.faults W.drawn W.faults T.seat in
         lacked_later (at a.files.now a.random.now a.seat.now).table (at b.files.now b.random.now b.seat.now).table
-        (at c.files.now c.random.now c.seat.now).table xs p.1.table };
+        (at c.files.now c.random.now c.seat.now).table (found_in xs) p.1.table };
 }
 
 /// Serves one connection to its end, or to the message that ends it. Each request is answered as the decision on

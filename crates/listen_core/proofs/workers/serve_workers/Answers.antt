@@ -25,5 +25,5 @@ returns-clause-worn g c = λ is.
       there.1,
       λ t.
           let lacked = (worn_lacked _ laws _ _ c.args.count Worn (serves_there _ _ _ _ _ _ _ _ _ _ (there.2 (some_of c.args.workers.items there.0 below) t)) refl).2 in
-          (lacked.0, lacked.3, lacked.4 ∙ lacked.5),
+          (lacked.2.0, lacked.2.3, lacked.2.4 ∙ lacked.2.5),
     )
