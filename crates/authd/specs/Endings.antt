@@ -36,6 +36,7 @@ refusal_line refusal.StoreAbsent = codes "store absent\n"
 refusal_line refusal.SpacesAbsent = codes "spaces absent\n"
 refusal_line refusal.HtdigestAbsent = codes "htdigest absent\n"
 refusal_line refusal.FileTooLong = codes "file too long\n"
+refusal_line refusal.NotForProxy = codes "not for a proxy\n"
 refusal_line (refusal.StoreLine line) = numbered_line (codes "store line ") line
 refusal_line (refusal.SpacesLine line) = numbered_line (codes "spaces line ") line
 refusal_line (refusal.HtdigestLine line) = numbered_line (codes "htdigest line ") line

@@ -19,4 +19,5 @@ pub mod Migrate
 pub mod Pipe
 pub mod Run
 pub mod Listen
+pub mod Proxying
 pub mod Report

@@ -9,14 +9,15 @@ use Rattle.authd.specs.Passwd.{Passwds}
 use Rattle.authd.specs.Pipe.{Pipes}
 use Rattle.authd.specs.Show.{Shows}
 use Rattle.authd.specs.Switch.{Switches}
-use Rattle.authd.specs.Words.{Command, Usage, Show, Pipe, Check, Import, Passwd, Switch, Migrate, Listen}
+use Rattle.authd.specs.Words.{Command, Usage, Show, Pipe, Check, Import, Passwd, Switch, Migrate, Listen, Proxy}
 use Rattle.authd.specs.declared.failure.Failure.TheVariants as failure
 
--- What each command does to the outside, and how it ends. Other words touch nothing, nor do those of `listen`, which is done
--- over workers, and `show` touches the link alone.
+-- What each command does to the outside, and how it ends. Other words touch nothing, nor do those of `listen` and
+-- `proxy`, which are done over workers, and `show` touches the link alone.
 abbrev pub Does : {L F C W : Type 0} → Views L F C W → Command → Objects L F C W → Objects L F C W → Ending → Type 0
 Does v Usage before now ending = (ending ≡ Err failure.Usage) × (now ≡ before)
 Does v (Listen listening) before now ending = (ending ≡ Err failure.Usage) × (now ≡ before)
+Does v (Proxy proxying) before now ending = (ending ≡ Err failure.Usage) × (now ≡ before)
 Does v Show before now ending = Shows (v.link before.link) (v.link now.link) ending × (now ≡ record before { link = now.link })
 Does v (Pipe store spaces root) before now ending = Pipes v store spaces root before now ending
 Does v (Check store spaces) before now ending = Checks (v.files) store spaces before.files now.files (v.link before.link) (v.link now.link) ending × (now ≡ record before { link = now.link; files = now.files })

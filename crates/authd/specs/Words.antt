@@ -14,6 +14,14 @@ pub record Listening : Type 0 where
   pub workers : ℕ
   pub connections : ℕ
 
+-- what `proxy` asks for: the same without a folder
+pub record Proxying : Type 0 where
+  pub store : List ℕ
+  pub spaces : List ℕ
+  pub address : List ℕ
+  pub workers : ℕ
+  pub connections : ℕ
+
 pub data Command : Type 0 where
   -- the words are none that the program knows
   Usage : Command
@@ -31,6 +39,7 @@ pub data Command : Type 0 where
   -- the name of a store
   Migrate : List ℕ → Command
   Listen : Listening → Command
+  Proxy : Proxying → Command
 
 -- a word of the command line isn't empty and doesn't begin with `-`
 abbrev pub is_word : List ℕ → Bool
@@ -81,6 +90,20 @@ abbrev pub listen_with : List (List ℕ) → Command
 listen_with (store ∷ spaces ∷ root ∷ address ∷ workers ∷ connections ∷ []) = listen_at store spaces root address workers connections
 listen_with words = Usage
 
+-- where both numbers are well
+abbrev pub proxy_by : List ℕ → List ℕ → List ℕ → Option ℕ → Option ℕ → Command
+proxy_by store spaces address (Some workers) (Some connections) =
+    Proxy (record { store = store; spaces = spaces; address = address; workers = workers; connections = connections })
+proxy_by store spaces address _ _ = Usage
+
+abbrev pub proxy_at : List ℕ → List ℕ → List ℕ → List ℕ → List ℕ → Command
+proxy_at store spaces address workers connections =
+    if is_address address then proxy_by store spaces address (number_in 1 MOST_WORKERS workers) (number_in 1 MOST_CONNECTIONS connections) else Usage
+
+abbrev pub proxy_with : List (List ℕ) → Command
+proxy_with (store ∷ spaces ∷ address ∷ workers ∷ connections ∷ []) = proxy_at store spaces address workers connections
+proxy_with words = Usage
+
 -- ---- all of them
 
 -- a command by its name, with exactly its words
@@ -95,6 +118,7 @@ named name words =
     else if bytes_eq name (codes "enable") then switch_with true words
     else if bytes_eq name (codes "migrate") then migrate_with words
     else if bytes_eq name (codes "listen") then listen_with words
+    else if bytes_eq name (codes "proxy") then proxy_with words
     else Usage
 
 abbrev pub by_name : List (List ℕ) → Command
@@ -115,3 +139,30 @@ listening_in (Passwd store name realm kind rounds) = None
 listening_in (Switch store name realm on) = None
 listening_in (Migrate store) = None
 listening_in (Listen listening) = Some listening
+listening_in (Proxy proxying) = None
+
+-- what words of `proxy` ask for
+abbrev pub proxying_in : Command → Option Proxying
+proxying_in Usage = None
+proxying_in Show = None
+proxying_in (Pipe store spaces root) = None
+proxying_in (Check store spaces) = None
+proxying_in (Import store htdigest) = None
+proxying_in (Passwd store name realm kind rounds) = None
+proxying_in (Switch store name realm on) = None
+proxying_in (Migrate store) = None
+proxying_in (Listen listening) = None
+proxying_in (Proxy proxying) = Some proxying
+
+-- what main makes: whether a proxy, how many workers, and the address
+abbrev pub crew_in : Command → Option (Bool × ℕ × List ℕ)
+crew_in Usage = None
+crew_in Show = None
+crew_in (Pipe store spaces root) = None
+crew_in (Check store spaces) = None
+crew_in (Import store htdigest) = None
+crew_in (Passwd store name realm kind rounds) = None
+crew_in (Switch store name realm on) = None
+crew_in (Migrate store) = None
+crew_in (Listen listening) = Some (false, listening.workers, listening.address)
+crew_in (Proxy proxying) = Some (true, proxying.workers, proxying.address)

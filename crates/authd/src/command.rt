@@ -2,11 +2,11 @@
 ghost use Rattle.std.specs.Prelude.{◌≡◌, IfOk, map, string_bytes};
 ghost use Rattle.std.specs.List.{list_all};
 ghost use Rattle.std.specs.Option.{option_map};
-ghost use Rattle.authd.specs.Commands.{crew_in, listening_of, meaning, parts_of};
-ghost use Rattle.authd.specs.Words.{by_name, check_with, command_of, import_with, is_word, listen_at, listen_with, listening_in, migrate_with, named, passwd_with, pipe_with, show_with, switch_with};
+ghost use Rattle.authd.specs.Commands.{listening_of, meaning, parts_of, proxying_of};
+ghost use Rattle.authd.specs.Words.{by_name, crew_in, check_with, command_of, import_with, is_word, listen_at, listen_with, listening_in, migrate_with, named, passwd_with, pipe_with, proxy_at, proxy_with, proxying_in, show_with, switch_with};
 
 use crate::account::{Account, ROUNDS};
-use crate::crew::{Crew, Listening, MOST_CONNECTIONS, MOST_WORKERS};
+use crate::crew::{Crew, Listening, MOST_CONNECTIONS, MOST_WORKERS, Proxying};
 use crate::numbers::{is_address, number_in};
 use auth_grammar::{Octets, OutOfMemory};
 use std::alloc::Global;
@@ -39,6 +39,7 @@ pub(crate) enum Command<'w> {
     Switch { holder: Holder<'w>, on: bool },
     Migrate { store: &'w [u8] },
     Listen(Listening<'w>),
+    Proxy(Proxying<'w>),
 }
 
 impl<'w> Command<'w> {
@@ -55,7 +56,26 @@ impl<'w> Command<'w> {
             | Command::Import { .. }
             | Command::Passwd(_)
             | Command::Switch { .. }
-            | Command::Migrate { .. } => None,
+            | Command::Migrate { .. }
+            | Command::Proxy(_) => None,
+        }
+    }
+
+    /// What `proxy` asks for, where this is `proxy`.
+    pub(crate) fn proxying(self) -> Option<Proxying<'w>>
+        ensures { option_map proxying_of result ≡ proxying_in (meaning self.entry) }
+    {
+        match self {
+            Command::Proxy(proxying) => Some(proxying),
+            Command::Usage
+            | Command::Show
+            | Command::Pipe(_)
+            | Command::Check { .. }
+            | Command::Import { .. }
+            | Command::Passwd(_)
+            | Command::Switch { .. }
+            | Command::Migrate { .. }
+            | Command::Listen(_) => None,
         }
     }
 }
@@ -210,6 +230,48 @@ fn listen_with(words: &[String]) -> Command<'_>
     }
 }
 
+/// `proxy` by these files, where the other words are an address and two numbers.
+fn proxy_at<'w>(
+    store: &'w [u8],
+    spaces: &'w [u8],
+    address: &'w str,
+    workers: &[u8],
+    connections: &[u8],
+) -> Command<'w>
+    ensures { meaning result ≡ proxy_at store.now spaces.now address.now workers.now connections.now }
+{
+    if !is_address(address) {
+        return Command::Usage;
+    }
+    let workers = number_in(1, MOST_WORKERS, workers);
+    let connections = number_in(1, MOST_CONNECTIONS, connections);
+    match (workers, connections) {
+        (Some(workers), Some(connections)) => Command::Proxy(Proxying {
+            store,
+            spaces,
+            address,
+            workers,
+            connections,
+        }),
+        _ => Command::Usage,
+    }
+}
+
+fn proxy_with(words: &[String]) -> Command<'_>
+    ensures { meaning result ≡ proxy_with (map string_bytes words.now) }
+{
+    match words {
+        [store, spaces, address, workers, connections] => proxy_at(
+            store.as_bytes(),
+            spaces.as_bytes(),
+            address.as_str(),
+            workers.as_bytes(),
+            connections.as_bytes(),
+        ),
+        _ => Command::Usage,
+    }
+}
+
 /// The command of this name, with exactly its words.
 fn named<'w>(name: &[u8], words: &'w [String]) -> Command<'w>
     ensures { meaning result ≡ named name.now (map string_bytes words.now) }
@@ -232,6 +294,8 @@ fn named<'w>(name: &[u8], words: &'w [String]) -> Command<'w>
         migrate_with(words)
     } else if name == b"listen".as_slice() {
         listen_with(words)
+    } else if name == b"proxy".as_slice() {
+        proxy_with(words)
     } else {
         Command::Usage
     }
@@ -259,15 +323,21 @@ pub(crate) fn command_of(words: &[String]) -> Command<'_>
 }
 
 /// What `main` makes for these words, which don't include the program's name. There is none exactly where they are no
-/// words of `listen`.
+/// words of `listen` or `proxy`.
 pub fn crew_of(alloc: Global, words: &Vec<String>) -> Result<Option<Crew>, OutOfMemory>
     ensures { IfOk result (λ crew. option_map parts_of crew ≡ crew_in (command_of (map string_bytes words.now.items))) }
 {
-    let Some(listening) = command_of(words.as_slice()).listening() else {
-        return Ok(None);
-    };
-    Ok(Some(Crew {
-        workers: listening.workers,
-        address: Octets::of(alloc, listening.address.as_bytes())?,
-    }))
+    match command_of(words.as_slice()) {
+        Command::Listen(listening) => Ok(Some(Crew {
+            proxy: false,
+            workers: listening.workers,
+            address: Octets::of(alloc, listening.address.as_bytes())?,
+        })),
+        Command::Proxy(proxying) => Ok(Some(Crew {
+            proxy: true,
+            workers: proxying.workers,
+            address: Octets::of(alloc, proxying.address.as_bytes())?,
+        })),
+        _ => Ok(None),
+    }
 }

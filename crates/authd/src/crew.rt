@@ -23,9 +23,24 @@ pub(crate) struct Listening<'w> {
     ghost few: { workers ≤ MOST_WORKERS },
 }
 
-/// What `main` makes for `listen`: how many workers, and the address on which they listen.
+/// What `proxy` serves by, and by whom: a store and spaces, the address to listen on, how many workers there are, and
+/// how many connections each of them serves.
+#[derive(Clone, Copy)]
+pub(crate) struct Proxying<'w> {
+    pub(crate) store: &'w [u8],
+    pub(crate) spaces: &'w [u8],
+    pub(crate) address: &'w str,
+    pub(crate) workers: u32,
+    pub(crate) connections: u32,
+    ghost some: { 1 ≤ workers },
+    ghost few: { workers ≤ MOST_WORKERS },
+}
+
+/// What `main` makes for `listen` and for `proxy`: which of them, how many workers, and the address on which they
+/// listen.
 #[derive(Drop)]
 pub struct Crew {
+    pub proxy: bool,
     pub workers: u32,
     pub address: Octets,
     ghost some: { 1 ≤ workers },

@@ -41,6 +41,8 @@ pub enum Refusal {
     HtdigestAbsent,
     /// A file is longer than 16,777,216 bytes.
     FileTooLong,
+    /// The space of `/` isn't there, or needs no user.
+    NotForProxy,
     /// This line of the store is its first faulty one.
     StoreLine { line: u32 },
     /// This line of the spaces is their first faulty one.
@@ -174,6 +176,7 @@ impl Refusal {
             Refusal::SpacesAbsent => Octets::of(alloc, b"spaces absent\n"),
             Refusal::HtdigestAbsent => Octets::of(alloc, b"htdigest absent\n"),
             Refusal::FileTooLong => Octets::of(alloc, b"file too long\n"),
+            Refusal::NotForProxy => Octets::of(alloc, b"not for a proxy\n"),
             Refusal::StoreLine { line } => numbered_line(alloc, b"store line ", line as u64),
             Refusal::SpacesLine { line } => numbered_line(alloc, b"spaces line ", line as u64),
             Refusal::HtdigestLine { line } => {

@@ -27,7 +27,7 @@ use std::thread::Threads;
 use worker_loop::Finish;
 
 /// The exit status of workers that ended so, or that there was no memory for.
-fn status_of(end: Result<Finish, OutOfMemory>) -> u8
+pub(crate) fn status_of(end: Result<Finish, OutOfMemory>) -> u8
     ensures { result ≡ status_for end }
 {
     match end {

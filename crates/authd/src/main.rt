@@ -19,6 +19,7 @@ mod passwd;
 mod password;
 mod pipe;
 mod printing;
+mod proxying;
 mod report;
 mod run;
 mod saving;

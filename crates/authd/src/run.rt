@@ -66,8 +66,8 @@ fn perform<L: Link, F: Files, C: Clock, W: Words>(
         IfErr result (FailureSays v (objects link.old files.old clock.old random.old) (objects link.new files.new clock.new random.new)) }
 {
     match asked_for(words) {
-        // `listen` is done over workers
-        Command::Usage | Command::Listen(_) => Err(Failure::Usage),
+        // `listen` and `proxy` are done over workers
+        Command::Usage | Command::Listen(_) | Command::Proxy(_) => Err(Failure::Usage),
         Command::Show => show(alloc, link),
         Command::Pipe(place) => pipe(alloc, &place, link, files, clock, random),
         Command::Check { store, spaces } => check(alloc, store, spaces, link, files),

@@ -2,6 +2,7 @@
 mod at_once;
 mod listen;
 mod pipe;
+mod proxying;
 mod rows;
 mod secrets;
 mod show;
@@ -121,7 +122,7 @@ fn check(rt: &impl Abort, ran: &Ran, status: u8, link: &[u8], diag: &[u8], row: 
 fn other_words_are_answered_with_usage(rt: HostRuntime) -> Result<(), Fail> {
     let alloc = rt.alloc();
     let lines =
-        "\n-\nshow -\nshow x\nShow\nshows\nshow \npipe\npipe a b\npipe a b c d\npipe a  c\npipe a b -c\ncheck a\ncheck a b c\ncheck a -b\nimport a\nimport a b c\npasswd a b c\npasswd a b c md5 d\npasswd a b c MD5\npasswd a b:b c md5\npasswd a b c:c md5\nlisten a b c 127.0.0.1:8080 1 1\n--help\n\
+        "\n-\nshow -\nshow x\nShow\nshows\nshow \npipe\npipe a b\npipe a b c d\npipe a  c\npipe a b -c\ncheck a\ncheck a b c\ncheck a -b\nimport a\nimport a b c\npasswd a b c\npasswd a b c md5 d\npasswd a b c MD5\npasswd a b:b c md5\npasswd a b c:c md5\nlisten a b c 127.0.0.1:8080 1 1\nproxy a b 127.0.0.1:8080 1 1\n--help\n\
          disable a b\nenable a b c d\nmigrate\nmigrate a b\nmigrate -a\nmigrate a --rounds=5000\ndisable a b c --rounds=5000\npasswd a b c md5 --rounds=5000\n--rounds=5000 passwd a b c scram-sha-256\npasswd --rounds=5000 a b c scram-sha-256 --rounds=5000\n\
          passwd a b c scram-sha-256 --rounds=4095\npasswd a b c scram-sha-256 --rounds=1000001\npasswd a b c scram-sha-256 --rounds=05000\npasswd a b c scram-sha-256 --rounds=+5000\npasswd a b c scram-sha-256 --rounds=\npasswd a b c scram-sha-256 --rounds\npasswd a b c scram-sha-256 --round=5000\npasswd a b --rounds=5000\npasswd a b  scram-sha-256 --rounds=5000";
     for words in lines.split('\n') {

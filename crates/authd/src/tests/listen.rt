@@ -45,7 +45,10 @@ listen s p w 127.0.0.1:8080 2 1 1|
 listen s p -w 127.0.0.1:8080 2 1|
 listen s p  127.0.0.1:8080 2 1|
 Listen s p w 127.0.0.1:8080 2 1|
-proxy s p 127.0.0.1:8080 2 1|
+proxy s p 127.0.0.1:8080 2 1|proxy 2 127.0.0.1:8080
+proxy s p w 127.0.0.1:8080 2 1|
+proxy s p 127.0.0.1:8080 0 1|
+proxy s p 127.0.0.1 2 1|
 pipe s p w|
 show|";
 
@@ -53,6 +56,9 @@ show|";
 fn row_of(alloc: Global, crew: Option<Crew>) -> Result<Octets, Fail> {
     let mut row = Octets::new(alloc);
     if let Some(crew) = crew {
+        if crew.proxy {
+            row.extend(b"proxy ")?;
+        }
         row.extend(format!(in alloc; "{} ", crew.workers)?.as_bytes())?;
         row.extend(crew.address.bytes())?;
     }
