@@ -3,6 +3,7 @@ use Rattle.std.proofs.Common.{◌≡◌, ◌≢◌, ◌⊎◌, ◌+◌, ◌-◌,
 use Rattle.std.specs.Prelude.{if◌then◌else◌, nat_lt, ◌&&◌}
 use Rattle.std.proofs.lemmas.Bool.Decides.{nat_tests}
 use Rattle.auth_grammar.specs.Names.{params_of}
+use Rattle.auth_grammar.specs.declared.items.Item.{Item}
 use Rattle.auth_grammar.specs.declared.items.Param.{Param}
 use Rattle.digest_fields.specs.Credentials.{Credentials, credentials_params}
 use Rattle.digest_fields.specs.Field.{given}
@@ -26,7 +27,7 @@ use Rattle.client_core.specs.Digests.{DrewAtMost, can_use, credentials_with, dig
 use Rattle.client_core.specs.Domains.{lets_pass}
 use Rattle.client_core.specs.Givings.{again_by, again_given, again_next, by_choice, given as given_of, given_at, or_choice}
 use Rattle.client_core.specs.Scrams.{can_reuse}
-use Rattle.client_core.specs.Laws.{AreDistinct, Call, Gave, Failed, Other, GivesOnce, IsOther, Leave, Leaves, Use, use_in, uses}
+use Rattle.client_core.specs.Laws.{AreDistinct, SrUse, UseSrs, UsesSr, GivesSrOnce, Call, Gave, Failed, Other, GivesOnce, IsOther, Leave, Leaves, Use, use_in, uses}
 use Rattle.client_core.proofs.CountLaws.{count-with_grows, count-with_same}
 
 -- ---- one call
@@ -217,3 +218,118 @@ distinct_with s u t Other calls e later h = h
 pub gives_once : GivesOnce
 gives_once s t [] h = tt
 gives_once s t (call ∷ calls) h = distinct_with s h.0 t call calls h.1 (are_later h.0 t calls h.2) (gives_once h.0 t calls h.2)
+
+-- ---- an `sr`
+
+-- a use of an `sr` by its next count
+pub record IsNextSr (d e : Drawn) (words : List ℕ) (item : Item) : Type 0 where
+  pub one : SrUse
+  pub uses : UsesSr words item one
+  pub next : count_of d one.sr < one.count
+  pub after : count_of e one.sr ≡ one.count
+
+abbrev AreNextSr : Drawn → Drawn → List ℕ → Sent → Type 0
+AreNextSr d e words (sent.ScramAgain item) = IsNextSr d e words item
+AreNextSr d e words sent.Nothing = Unit {0}
+AreNextSr d e words (sent.Digest item) = Unit {0}
+AreNextSr d e words (sent.ScramFirst item) = Unit {0}
+AreNextSr d e words (sent.ScramFinal item) = Unit {0}
+
+abbrev GivesSr : State → List ℕ → Sent × State → Type 0
+GivesSr s words p = AreNextSr s.drawn p.1.drawn words p.0
+
+sr_by_nonce : (s : State) (request : OutRequest) (words : List ℕ) (choice : DigestChoice) (nonce : Option (List ℕ)) → GivesSr s words (given_by_nonce s request words choice nonce)
+sr_by_nonce s request words choice None = tt
+sr_by_nonce s request words choice (Some nonce) = by (can_use s.role s.drawn choice nonce request)
+  where
+    by : (b : Bool) → GivesSr s words (if b then given_with s choice (next_draw s.drawn choice nonce words) request else (sent.Nothing, s))
+    by true = tt
+    by false = tt
+
+sr_chosen : (s : State) (request : OutRequest) (words : List ℕ) (choice : Chosen) → GivesSr s words (by_choice s request words choice)
+sr_chosen s request words Nothing = tt
+sr_chosen s request words (Digest choice) = sr_by_nonce s request words choice choice.nonce
+sr_chosen s request words (Scram choice) = tt
+
+sr_reused : (s : State) (request : OutRequest) (words : List ℕ) (x : Exchange) (reuse : Reuse) (b : Bool)
+    → GivesSr s words (or_choice s request words (if b then Some (again_next s x reuse words) else None))
+sr_reused s request words x reuse true = record {
+  one = record { sr = reuse.sr; count = count_of s.drawn reuse.sr + 1 };
+  uses = record { exchange = x; is = refl };
+  next = omega arith;
+  after = count-with_same s.drawn reuse.sr (count_of s.drawn reuse.sr + 1);
+}
+sr_reused s request words x reuse false = sr_chosen s request words s.choice
+
+sr_again_by : (s : State) (request : OutRequest) (moment : ℕ) (words : List ℕ) (x : Exchange) (reuse : Option Reuse) → GivesSr s words (or_choice s request words (again_by s moment words x reuse))
+sr_again_by s request moment words x None = sr_chosen s request words s.choice
+sr_again_by s request moment words x (Some reuse) = sr_reused s request words x reuse (can_reuse s.drawn reuse moment)
+
+sr_again : (s : State) (request : OutRequest) (moment : ℕ) (words : List ℕ) (p : Progress) (reuse : Option Reuse) → GivesSr s words (or_choice s request words (again_given s moment words p reuse))
+sr_again s request moment words progress.Nothing reuse = sr_chosen s request words s.choice
+sr_again s request moment words (progress.Begun first) reuse = sr_chosen s request words s.choice
+sr_again s request moment words (progress.Answered x) reuse = sr_chosen s request words s.choice
+sr_again s request moment words (progress.Finished x nonce) reuse = sr_again_by s request moment words x reuse
+
+sr_given : (s : State) (request : OutRequest) (moment : ℕ) (words : List ℕ) (p : Progress) → GivesSr s words (given_at s request moment words p)
+sr_given s request moment words (progress.Answered x) = tt
+sr_given s request moment words progress.Nothing = sr_again s request moment words s.progress s.reuse
+sr_given s request moment words (progress.Begun first) = sr_again s request moment words s.progress s.reuse
+sr_given s request moment words (progress.Finished x nonce) = sr_again s request moment words s.progress s.reuse
+
+sr_gave : (s t : State) (request : OutRequest) (moment : ℕ) (words : List ℕ) (what : Sent) → given_of s request moment words ≡ (what, t) → GivesSr s words (what, t)
+sr_gave s t request moment words what e = subst (λ (p : Sent × State). GivesSr s words p) e (sr_given s request moment words s.progress)
+
+-- uses whose counts are greater than what was drawn
+abbrev AreLaterSr : Drawn → List SrUse → Type 0
+AreLaterSr d [] = Unit {0}
+AreLaterSr d (one ∷ more) = (count_of d one.sr < one.count) × AreLaterSr d more
+
+sr_before : (d e : Drawn) → Draws d e → (more : List SrUse) → AreLaterSr e more → AreLaterSr d more
+sr_before d e draws [] h = tt
+sr_before d e draws (one ∷ more) h =
+    let low = grows d e draws one.sr in
+    let above = h.0 in
+    (omega arith, sr_before d e draws more h.1)
+
+sr_apart : (e : Drawn) (one other : SrUse) → count_of e one.sr ≡ one.count → count_of e other.sr < other.count → one ≢ other
+sr_apart e one other after later same =
+    let here : count_of e other.sr ≡ other.count = subst (λ (u : SrUse). count_of e u.sr ≡ u.count) same after in
+    omega arith
+
+sr_others : (e : Drawn) (one : SrUse) → count_of e one.sr ≡ one.count → (more : List SrUse) → AreLaterSr e more → IsOther one more
+sr_others e one after [] later = tt
+sr_others e one after (other ∷ more) later = (sr_apart e one other after later.0, sr_others e one after more later.1)
+
+record SrFound (d : Drawn) (calls : List Call) : Type 0 where
+  pub uses : List SrUse
+  pub said : UseSrs calls uses
+  pub later : AreLaterSr d uses
+  pub distinct : AreDistinct uses
+
+sr_with : (s u : State) (call : Call) (calls : List Call) → Leaves s call u → SrFound u.drawn calls → SrFound s.drawn (call ∷ calls)
+sr_with s u (Gave request moment words (sent.ScramAgain item)) calls e f =
+    let n : IsNextSr s.drawn u.drawn words item = sr_gave s u request moment words (sent.ScramAgain item) e in
+    record {
+      uses = n.one ∷ f.uses;
+      said = (n.one, f.uses, refl, n.uses, f.said);
+      later = (n.next, sr_before s.drawn u.drawn (leaves_draws s u (Gave request moment words (sent.ScramAgain item)) e) f.uses f.later);
+      distinct = (sr_others u.drawn n.one n.after f.uses f.later, f.distinct);
+    }
+sr_with s u (Gave request moment words sent.Nothing) calls e f =
+    record { uses = f.uses; said = f.said; later = sr_before s.drawn u.drawn (leaves_draws s u (Gave request moment words sent.Nothing) e) f.uses f.later; distinct = f.distinct }
+sr_with s u (Gave request moment words (sent.Digest item)) calls e f =
+    record { uses = f.uses; said = f.said; later = sr_before s.drawn u.drawn (leaves_draws s u (Gave request moment words (sent.Digest item)) e) f.uses f.later; distinct = f.distinct }
+sr_with s u (Gave request moment words (sent.ScramFirst item)) calls e f =
+    record { uses = f.uses; said = f.said; later = sr_before s.drawn u.drawn (leaves_draws s u (Gave request moment words (sent.ScramFirst item)) e) f.uses f.later; distinct = f.distinct }
+sr_with s u (Gave request moment words (sent.ScramFinal item)) calls e f =
+    record { uses = f.uses; said = f.said; later = sr_before s.drawn u.drawn (leaves_draws s u (Gave request moment words (sent.ScramFinal item)) e) f.uses f.later; distinct = f.distinct }
+sr_with s u Failed calls e f = record { uses = f.uses; said = f.said; later = sr_before s.drawn u.drawn (leaves_draws s u Failed e) f.uses f.later; distinct = f.distinct }
+sr_with s u Other calls e f = record { uses = f.uses; said = f.said; later = sr_before s.drawn u.drawn (leaves_draws s u Other e) f.uses f.later; distinct = f.distinct }
+
+sr_found : (s t : State) (calls : List Call) → Leave s calls t → SrFound s.drawn calls
+sr_found s t [] h = record { uses = []; said = refl; later = tt; distinct = tt }
+sr_found s t (call ∷ calls) h = sr_with s h.0 call calls h.1 (sr_found h.0 t calls h.2)
+
+pub gives_sr_once : GivesSrOnce
+gives_sr_once s t calls h = let f = sr_found s t calls h in (f.uses, f.said, f.distinct)

@@ -26,6 +26,7 @@ use Rattle.client_core.specs.Digests.{DrewAtMost}
 use Rattle.client_core.specs.Givings.{given as given_of}
 use Rattle.client_core.specs.Hearings.{decoded}
 use Rattle.client_core.specs.ScramConclusions.{signature_for}
+use Rattle.client_core.specs.Scrams.{again_nonce, final_item}
 use Rattle.client_core.specs.Readings.{SpellsInfo, challenge_status, info_field, lines_of}
 
 -- ---- when a server has proved itself
@@ -129,15 +130,43 @@ uses (Failed ∷ calls) = uses calls
 uses (Other ∷ calls) = uses calls
 
 -- none of the others is this one
-abbrev pub IsOther : Use → List Use → Type 0
+abbrev pub IsOther : {A : Type 0} → A → List A → Type 0
 IsOther one [] = Unit {0}
 IsOther one (other ∷ more) = (one ≢ other) × IsOther one more
 
 -- no two of them are one
-abbrev pub AreDistinct : List Use → Type 0
+abbrev pub AreDistinct : {A : Type 0} → List A → Type 0
 AreDistinct [] = Unit {0}
 AreDistinct (one ∷ more) = IsOther one more × AreDistinct more
 
 -- No nonce is given with one count twice.
 abbrev pub GivesOnce : Type 0
 GivesOnce = (s t : State) (calls : List Call) → Leave s calls t → AreDistinct (uses calls)
+
+-- ---- the same of an `sr`
+
+-- an `sr` and a count of it, by which an exchange is used again (RFC 7804 section 5.1)
+pub record SrUse : Type 0 where
+  pub sr : List ℕ
+  pub count : ℕ
+
+-- The item is a final message whose nonce is the base64 of the words, this count, and this `sr`.
+pub record UsesSr (words : List ℕ) (item : Item) (one : SrUse) : Type 0 where
+  pub exchange : Exchange
+  pub is : item ≡ final_item exchange (again_nonce one.sr one.count words)
+
+-- those of the credentials that were given, in order
+abbrev pub UseSrs : List Call → List SrUse → Type 0
+UseSrs [] uses = uses ≡ []
+UseSrs (Gave request moment words (sent.ScramAgain item) ∷ calls) uses =
+    (one : SrUse) × (more : List SrUse) × (uses ≡ one ∷ more) × UsesSr words item one × UseSrs calls more
+UseSrs (Gave request moment words sent.Nothing ∷ calls) uses = UseSrs calls uses
+UseSrs (Gave request moment words (sent.Digest item) ∷ calls) uses = UseSrs calls uses
+UseSrs (Gave request moment words (sent.ScramFirst item) ∷ calls) uses = UseSrs calls uses
+UseSrs (Gave request moment words (sent.ScramFinal item) ∷ calls) uses = UseSrs calls uses
+UseSrs (Failed ∷ calls) uses = UseSrs calls uses
+UseSrs (Other ∷ calls) uses = UseSrs calls uses
+
+-- No `sr` is given with one count twice.
+abbrev pub GivesSrOnce : Type 0
+GivesSrOnce = (s t : State) (calls : List Call) → Leave s calls t → (uses : List SrUse) × UseSrs calls uses × AreDistinct uses

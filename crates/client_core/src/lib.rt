@@ -25,6 +25,6 @@ mod tests;
 
 pub use choice::Choice;
 pub use client::{Client, PASSWORD_LIMIT};
-pub use laws::{gives_once, mutual_exactly};
+pub use laws::{gives_once, gives_sr_once, mutual_exactly};
 pub use outcome::{ClientError, Outcome};
 pub use request::{OutRequest, Sent};
