@@ -1,6 +1,7 @@
 //! Credentials of the standards, whose `response` is that of the password.
 mod decisions;
 mod exchanges;
+mod joined;
 mod messages;
 mod targets;
 

@@ -169,7 +169,7 @@ SCRAM-SHA-256 realm="r", sr="AQAAAAAAAAAAAAIAAAAAAAAAAAAAAAAAAAAA", ttl=300, sta
     ),
 ];
 
-fn site_of(alloc: Global) -> Result<Site, Fail> {
+pub(super) fn site_of(alloc: Global) -> Result<Site, Fail> {
     Ok(Site {
         store: Store::read(alloc, store_text())?,
         spaces: Spaces::read(alloc, spaces_text())?,
@@ -177,7 +177,7 @@ fn site_of(alloc: Global) -> Result<Site, Fail> {
     })
 }
 
-fn files_of(alloc: Global) -> Result<MemFiles, Fail> {
+pub(super) fn files_of(alloc: Global) -> Result<MemFiles, Fail> {
     let mut contents = Vec::new(alloc);
     let name = Octets::of(alloc, b"www/index.html")?;
     contents.push((name, Octets::of(alloc, b"hello\n")?))?;
