@@ -343,9 +343,9 @@ fn the_replies_are_the_same_in_any_cutting(rt: HostRuntime) -> Result<(), Fail> 
     let alloc = rt.alloc();
     let wanted = reply(alloc, b"200 OK", b"", b"Content-Length: 2\r\n\r\nok")?;
     let request = right_request(alloc, b"GET", b"")?;
-    for cut in 1..430 {
-        let dial = dial_of(alloc, link_of(alloc, OK, 1 + cut % 42, 0, 0)?)?;
-        let dial = serve(&rt, alloc, request.bytes(), cut, dial, wanted.bytes())?;
+    for cut in 1..43 {
+        let dial = dial_of(alloc, link_of(alloc, OK, cut, 0, 0)?)?;
+        let dial = serve(&rt, alloc, request.bytes(), cut * 9, dial, wanted.bytes())?;
         assert_eq!(rt; dial.ended().len(), 1);
     }
     Ok(())
