@@ -1,5 +1,5 @@
 -- What carrying a verdict out does, and what answering a request does.
-use Rattle.std.proofs.Common.{◌≡◌, ◌∷◌, [], ◌++◌, ℕ, List, Bool, true, false, Option, Some, None, Result, Ok, Err, refl, sym, ap, ◌∙◌, subst}
+use Rattle.std.proofs.Common.{◌≡◌, ◌∷◌, [], ◌++◌, ℕ, List, false, Option, Some, None, Result, Ok, Err, refl, sym, ap, ◌∙◌, subst}
 use Rattle.std.specs.Prelude.{IfOk, IsErrAnd}
 use Rattle.std.proofs.lemmas.Result.{err_from_is_err_and}
 use Rattle.auth_decide.specs.declared.verdict.Verdict.{Verdict}
@@ -10,7 +10,7 @@ use Rattle.connection_loop.specs.Machine.{Asks, Incoming, Move, Responds, Says}
 use Rattle.connection_loop.specs.declared.responder.RespondError.{RespondError}
 use Rattle.connection_loop.specs.declared.responder.Response.{Response as Reply}
 use Rattle.request_deciding.proofs.Machines.{GoesBy, answer_of, behind_events, behind_in-found, behind_of, carried_out, found_events, found_in-found, found_of, gives_up}
-use Rattle.request_deciding.specs.Deciding.{AreWanted, Decides}
+use Rattle.request_deciding.specs.Deciding.{Decides}
 use Rattle.request_deciding.specs.Outside.{LackedBy, TablePassed}
 use Rattle.request_deciding.specs.declared.events.Event.{Event}
 use Rattle.request_deciding.specs.declared.events.Finding.{Finding}

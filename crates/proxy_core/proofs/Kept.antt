@@ -1,5 +1,5 @@
 -- Why nothing is dialled but for an admitted request, and no credentials go up.
-use Rattle.std.proofs.Common.{◌≡◌, ◌∷◌, [], ◌++◌, ℕ, List, Bool, true, false, cond, map, Option, Some, None, inl, inr, refl, sym, ap, ◌∙◌, subst}
+use Rattle.std.proofs.Common.{◌≡◌, ◌∷◌, [], ◌++◌, ℕ, List, Bool, true, false, cond, map, Option, Some, None, inl, inr, refl, sym, ap, ◌∙◌}
 use Rattle.std.specs.Prelude.{◌||◌, ◌&&◌, ◌⊎◌, not, filter, codes}
 use Rattle.std.specs.List.{All}
 use Rattle.std.proofs.lemmas.List.Elements.{All-nil, All-cons, All-append}
@@ -8,7 +8,7 @@ use Rattle.auth_decide.specs.declared.verdict.Verdict.TheVariants.{Admit, Open, 
 use Rattle.auth_grammar.specs.Names.{same_name}
 use Rattle.auth_grammar.specs.declared.items.Role.TheVariants.{Proxy}
 use Rattle.connection_loop.specs.Machine.{Asks, Incoming, Move, Says}
-use Rattle.dial_exchange.specs.Exchanges.{received, wants_memory}
+use Rattle.dial_exchange.specs.Exchanges.{wants_memory}
 use Rattle.dial_exchange.specs.declared.events.DialEvent.{DialEvent}
 use Rattle.http_wire.specs.Fields.{Pairs, values_of}
 use Rattle.http_wire.specs.Values.{has_token}
@@ -22,7 +22,6 @@ use Rattle.request_deciding.specs.declared.server.Server.{Server}
 use Rattle.proxy_core.specs.Fields.{is_among, is_passed, line_of, lines_up, own_names, passed_lines, via_line}
 use Rattle.proxy_core.specs.Outgoing.{outgoing_of}
 use Rattle.proxy_core.specs.Promises.{IsSentOn}
-use Rattle.proxy_core.specs.Replies.{no_target_reply, reply_by, status_reply}
 use Rattle.proxy_core.specs.Serving.{after_exchange, course, move_to, next_move, pass_on}
 use Rattle.proxy_core.specs.Targets.{authority_of}
 use Rattle.proxy_core.specs.declared.demand.Demand.{Demand}

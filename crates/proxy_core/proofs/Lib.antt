@@ -1,3 +1,4 @@
 pub mod Lines
 pub mod Carried
 pub mod Kept
+pub mod Admitted

@@ -7,3 +7,4 @@ pub mod Serving
 pub mod Carrying
 pub mod Laws
 pub mod Promises
+pub mod Admissions

@@ -3,12 +3,12 @@ ghost use Rattle.std.specs.Prelude.{◌≡◌, ◌≤◌, IsTrue, List, Some, No
 ghost use Rattle.auth_io.specs.Causes.{Rose};
 ghost use Rattle.connection_loop.specs.Account.{link_of};
 ghost use Rattle.connection_loop.specs.Machine.{Responds};
-ghost use Rattle.connection_loop.specs.Results.{ServesSession};
 ghost use Rattle.request_deciding.specs.Outside.{LackedBy};
 ghost use Rattle.request_deciding.specs.Serving.{incoming_of, server};
 ghost use Rattle.request_deciding.specs.declared.events.Event.{Event};
 ghost use Rattle.request_deciding.specs.declared.server.Server.{Server};
 ghost use Rattle.spaces_map.specs.Spaces.{proxy_ready};
+ghost use Rattle.proxy_core.specs.Admissions.{ServesConnection};
 ghost use Rattle.proxy_core.specs.Outside.{Passed, outside_at};
 ghost use Rattle.proxy_core.specs.Serving.{proxy, refusal_of};
 ghost use Rattle.proxy_core.specs.Targets.{authority_of};
@@ -218,13 +218,12 @@ pub fn proxy_connection<L: Link, D: Dial, C: Clock, W: Words, T: TableSeat>(
     site: &Site,
 ) -> Result<Served, ServeError>
     requires { IsTrue (proxy_ready site.now.spaces) }
-    // What was read, written, shown and done is what the session over the input has.
+    // What was read, written, shown and done is what the session over the input has, and who is admitted deserved it.
     ensures serves { let link_at = link_of L.left L.given L.written L.reads in
         let at = outside_at D.dialled D.coming D.handed D.faults D.link_faults W.drawn W.faults T.seat in
         let before = at dial.old random.old seat.old in let now = at dial.new random.new seat.new in
         let s = server site.now (T.seat seat.old).shards in
-        ServesSession proxy (LackedBy before.table now.table) (Passed before now) (link_at link.old) (link_at link.new)
-        (C.shown clock.old) (C.shown clock.new) s s result }
+        ServesConnection before now (link_at link.old) (link_at link.new) (C.shown clock.old) (C.shown clock.new) s result }
 
     // No fault is answered without its cause.
     ensures read_fault { result ≡ Err ServeError.ReadFault → Rose (L.read_faults link.old) (L.read_faults link.new) }

@@ -1,0 +1,6 @@
+use Rattle.std.proofs.Common.{rules}
+use Rattle.proxy_core.proofs.Admitted.{serves_connection}
+use Rattle.proxy_core.proofs.serving.proxy_connection.Goals as goal
+
+pub returns-clause-serves : goal.returns-clause-serves
+returns-clause-serves g c = serves_connection _ _ _ _ _ _ _ _ (search rules)
