@@ -42,6 +42,9 @@ const INFO: &[u8] =
 
 const OK: &[u8] = b"HTTP/1.1 200 OK\r\nContent-Length: 2\r\n\r\nok";
 
+/// A response that ends inside its body.
+const SHORT: &[u8] = b"HTTP/1.1 200 OK\r\nContent-Length: 3\r\n\r\nok";
+
 fn joined(alloc: Global, parts: &[&[u8]]) -> Result<Octets, Fail> {
     let mut text = Octets::new(alloc);
     for part in parts {
@@ -279,7 +282,7 @@ fn a_gateway_without_a_response_is_a_bad_one(rt: HostRuntime) -> Result<(), Fail
     let alloc = rt.alloc();
     let wanted = bad_gateway(alloc)?;
     for upstream in [
-        b"HTTP/1.1 200 OK\r\nContent-Length: 3\r\n\r\nok".as_slice(),
+        SHORT,
         b"HTTP/1.1 200 OK\r\nContent-Length: 2\r\nContent-Length: 2\r\n\r\nok",
         b"",
         b"SSH-2.0-x\r\n\r\n",
@@ -338,15 +341,31 @@ fn a_target_without_an_authority_is_refused_and_not_decided(rt: HostRuntime) -> 
     Ok(())
 }
 
+/// Checks the reply where the client's bytes and the upstream's come in pieces of these sizes.
+fn check_cut(
+    rt: &impl Abort,
+    alloc: Global,
+    request: &[u8],
+    upstream: &[u8],
+    cuts: (u32, u32),
+    wanted: &[u8],
+) -> Result<(), Fail> {
+    let dial = dial_of(alloc, link_of(alloc, upstream, cuts.1, 0, 0)?)?;
+    let dial = serve(rt, alloc, request, cuts.0, dial, wanted)?;
+    assert_eq!(rt; dial.ended().len(), 1);
+    Ok(())
+}
+
 #[test]
 fn the_replies_are_the_same_in_any_cutting(rt: HostRuntime) -> Result<(), Fail> {
     let alloc = rt.alloc();
-    let wanted = reply(alloc, b"200 OK", b"", b"Content-Length: 2\r\n\r\nok")?;
+    let passed = reply(alloc, b"200 OK", b"", b"Content-Length: 2\r\n\r\nok")?;
+    let bad = bad_gateway(alloc)?;
     let request = right_request(alloc, b"GET", b"")?;
-    for cut in 1..43 {
-        let dial = dial_of(alloc, link_of(alloc, OK, cut, 0, 0)?)?;
-        let dial = serve(&rt, alloc, request.bytes(), cut * 9, dial, wanted.bytes())?;
-        assert_eq!(rt; dial.ended().len(), 1);
+    for cut in 1..430 {
+        let cuts = (cut, 1 + cut % 42);
+        check_cut(&rt, alloc, request.bytes(), OK, cuts, passed.bytes())?;
+        check_cut(&rt, alloc, request.bytes(), SHORT, cuts, bad.bytes())?;
     }
     Ok(())
 }
