@@ -24,6 +24,8 @@ use Rattle.client_core.specs.declared.reading.Said.{Said}
 use Rattle.client_core.specs.declared.reading.Said.TheVariants as said
 use Rattle.client_core.specs.declared.request.OutRequest.{OutRequest}
 use Rattle.client_core.specs.declared.request.Sent.TheVariants as sent
+use Rattle.client_core.specs.declared.state.Change.{Change}
+use Rattle.client_core.specs.declared.state.Change.TheVariants as change
 use Rattle.client_core.specs.declared.state.Chosen.{Chosen}
 use Rattle.client_core.specs.declared.state.Chosen.TheVariants as chosen
 use Rattle.client_core.specs.declared.state.State.{State}
@@ -94,3 +96,22 @@ concludes_challenge s t request response moment outcome quoting items valid stat
     c.keeps
     ∙ ap (λ (x : Said). applied (concluded s request sent.Nothing response moment x c.heard).change s) is
     ∙ ap (λ (x : Heard). applied (concluded s request sent.Nothing response moment (said.Challenge items) x).change s) told
+
+-- ---- the role
+
+change_role : (c : Change) (s : State) → (applied c s).role ≡ s.role
+change_role change.Keep s = refl
+change_role (change.Choose new) s = refl
+change_role (change.Begin new reuse) s = refl
+change_role (change.Renew nonce) s = refl
+change_role (change.Answer x) s = refl
+change_role (change.Replace reuse) s = refl
+change_role change.Forget s = refl
+change_role change.Pass s = refl
+change_role (change.PassTo nonce) s = refl
+change_role change.Finish s = refl
+change_role change.Fail s = refl
+
+-- a challenge leaves it
+pub challenged_role : (s : State) (request : OutRequest) (response : Response) (moment : ℕ) (items : List Item) → (challenged_state s request response moment items).role ≡ s.role
+challenged_role s request response moment items = change_role (concluded s request sent.Nothing response moment (said.Challenge items) heard.Nothing).change s

@@ -86,12 +86,12 @@ IsNoUse call = (n : TableName) (count : ℕ) → Uses n count call.what → ⊥
 
 issue_none : (what : What) → IsIssue what → (n : TableName) (count : ℕ) → Uses n count what → ⊥
 issue_none (Issue kind number random) is n count uses = uses
-issue_none (Peek nonce space) is n count uses = absurd is
-issue_none (Use nonce kind space used given) is n count uses = absurd is
-issue_none (Open space random exchange) is n count uses = absurd is
-issue_none (Take sid space) is n count uses = absurd is
-issue_none (Keep sid space) is n count uses = absurd is
-issue_none (Recall sid space) is n count uses = absurd is
+issue_none (Peek nonce _) is n count uses = absurd is
+issue_none (Use nonce kind _ used given) is n count uses = absurd is
+issue_none (Open _ random exchange) is n count uses = absurd is
+issue_none (Take sid _) is n count uses = absurd is
+issue_none (Keep sid _) is n count uses = absurd is
+issue_none (Recall sid _) is n count uses = absurd is
 
 pub only_issue : (steps : List Step) → OnlyIssue steps → All IsNoUse (calls_in steps)
 only_issue [] only = All-nil IsNoUse

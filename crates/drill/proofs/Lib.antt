@@ -1,3 +1,4 @@
+pub mod Conducting
 pub mod Counts
 pub mod Decided
 pub mod Deliveries
@@ -8,3 +9,4 @@ pub mod Known
 pub mod Lists
 pub mod Plain
 pub mod Repeats
+pub mod Stepping

@@ -2,13 +2,18 @@
 use Rattle.std.proofs.Common.{◌≡◌, ◌⊎◌, inl, inr, ℕ, zero, suc, List, [], ◌∷◌, ◌++◌, length, slice_get, Some, None, All, refl, ap, subst}
 use Rattle.std.proofs.lemmas.List.Elements.{All-head, All-tail}
 use Rattle.admission.specs.Steps.{Step, Drew, Called}
-use Rattle.drill.specs.Deciding.{calls_in}
+use Rattle.drill.specs.Deciding.{calls_in, draws_in}
 use Rattle.nonce_shard.specs.declared.calls.Call.{Call}
 
 pub calls_more : (done more : List Step) → calls_in (done ++ more) ≡ calls_in done ++ calls_in more
 calls_more [] more = refl
 calls_more (Drew words ∷ done) more = calls_more done more
 calls_more (Called shard before call ∷ done) more = ap (λ (l : List Call). call ∷ l) (calls_more done more)
+
+pub draws_more : (done more : List Step) → draws_in (done ++ more) ≡ draws_in done ++ draws_in more
+draws_more [] more = refl
+draws_more (Drew words ∷ done) more = ap (λ (l : List (List ℕ)). words ∷ l) (draws_more done more)
+draws_more (Called shard before call ∷ done) more = draws_more done more
 
 not_empty : {X : Type 0} (before : List X) (y : X) (after : List X) → [] ≡ before ++ y ∷ after → ⊥
 not_empty [] y after e = cc

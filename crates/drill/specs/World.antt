@@ -1,5 +1,5 @@
 -- A client, a server and its nonce table of one shard, with whatever is lost, repeated or reordered between them.
-use Rattle.std.specs.Prelude.{ℕ, ◌+◌, if◌then◌else◌, false, Bool, Option, Some, None, List, [], ◌∷◌, ◌++◌, slice_get, codes, ⊤}
+use Rattle.std.specs.Prelude.{ℕ, ◌+◌, if◌then◌else◌, false, Bool, Option, Some, None, List, [], ◌∷◌, ◌++◌, slice_get, length, codes, decimal, ⊤}
 use Rattle.std.specs.List.{list_any}
 use Rattle.std.specs.Option.{option_map_or}
 use Rattle.auth_grammar.specs.Names.{params_of, same_name, value_of}
@@ -22,7 +22,7 @@ use Rattle.drill.specs.declared.event.DrillEvent.{DrillEvent}
 use Rattle.drill.specs.declared.event.DrillEvent.TheVariants.{Challenge, Make, Deliver, Pass}
 use Rattle.drill.specs.declared.tally.Tally.{Tally}
 use Rattle.drill.specs.Requests.{can_answer, can_send, credentials_line, out_request, plain_request, request_with, response_with}
-use Rattle.drill.specs.Deciding.{AreWords, calls_in, decided, question, steps_for}
+use Rattle.drill.specs.Deciding.{AreWords, calls_in, decided, draws_in, question, steps_for}
 
 -- ---- states
 
@@ -127,6 +127,20 @@ abbrev pub run : List Happening → World → World
 run [] w = w
 run (h ∷ happenings) w = run happenings (step w h)
 
+-- the words that are drawn in an event, for the server's nonce or for the client
+abbrev pub delivery_draws : World → List ℕ → RequestCredentials → Option Item → List (List ℕ)
+delivery_draws w words credentials None = []
+delivery_draws w words credentials (Some item) = draws_in (steps_for (question w.scene.clock (request_with item) credentials) words w.calls)
+
+abbrev pub draws_of : World → DrillEvent → List ℕ → RequestCredentials → List (List ℕ)
+draws_of w Challenge words credentials = draws_in (steps_for (question w.scene.clock plain_request credentials) words w.calls)
+draws_of w Make words credentials = if has_nonce w.scene.client then words ∷ [] else []
+draws_of w (Deliver k) words credentials = delivery_draws w words credentials (slice_get w.scene.made k)
+draws_of w (Pass seconds) words credentials = []
+
+abbrev pub draws : World → Happening → List (List ℕ)
+draws w h = draws_of w h.event h.words h.credentials
+
 -- the lines of credentials of the request that comes to the server
 abbrev pub delivered_lines : Option Item → List (List ℕ)
 delivered_lines None = []
@@ -144,3 +158,11 @@ pub record IsSound (w : World) (h : Happening) : Type 0 where
 abbrev pub AreSound : List Happening → World → Type 0
 AreSound [] w = ⊤
 AreSound (h ∷ happenings) w = IsSound w h × AreSound happenings (step w h)
+
+-- ---- the line
+
+abbrev pub line_of : Scene → ℕ → List ℕ
+line_of s steps =
+    codes "steps " ++ decimal steps ++ codes " made " ++ decimal (length s.made) ++ codes " delivered " ++ decimal s.tally.delivered
+    ++ codes " admitted " ++ decimal s.tally.admitted ++ codes " stale " ++ decimal s.tally.stale
+    ++ codes " refused " ++ decimal s.tally.refused ++ 10 ∷ []
