@@ -1,7 +1,6 @@
 -- One request on a connection.
-use Rattle.std.proofs.Common.{◌≡◌, ◌⊎◌, ℕ, Bool, true, false, List, [], ◌∷◌, ◌≤◌, map, take, length, Option, Some, None, Result, Ok, Err, OnOk, refl, sym, ap, ◌∙◌, subst, inl, inr, arith}
+use Rattle.std.proofs.Common.{◌≡◌, ◌⊎◌, ℕ, Bool, true, false, List, [], ◌∷◌, ◌≤◌, map, take, Option, Some, None, Result, Ok, Err, OnOk, refl, ap, ◌∙◌, subst, inl, inr, arith}
 use Rattle.std.proofs.lemmas.Bool.Decides.{nat_tests}
-use Rattle.std.proofs.Math.Seq.{take-length}
 use Rattle.std.specs.Io.KnownBytes.{Appends}
 use Rattle.auth_io.specs.Causes.{Rose}
 use Rattle.auth_io.specs.Handing.{Handed, HandsAll, HandsFirst, HandsOut, RoseIfFailed, StartsEmpty, TakesBack, has_fault}

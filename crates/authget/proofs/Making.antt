@@ -1,5 +1,5 @@
 -- One request, from its credentials to what the reply means.
-use Rattle.std.proofs.Common.{◌≡◌, ◌⊎◌, ℕ, Bool, true, false, List, [], ◌∷◌, ◌++◌, take, length, Option, Some, None, Ok, Err, refl, sym, ap, ◌∙◌, subst, inl, inr}
+use Rattle.std.proofs.Common.{◌≡◌, ℕ, true, false, List, [], ◌∷◌, take, length, Option, Ok, Err, refl, sym, ap, ◌∙◌, subst, inl, inr}
 use Rattle.std.proofs.Math.Seq.{take-length}
 use Rattle.auth_io.specs.Told.{Adds, Stays}
 use Rattle.auth_io.proofs.Passing.{Adds_none, Stays_trans}
@@ -9,8 +9,8 @@ use Rattle.client_core.specs.declared.request.Sent.{Sent}
 use Rattle.client_core.specs.declared.state.State.{State}
 use Rattle.http_wire.specs.declared.response.Response.{Response}
 use Rattle.authget.specs.Exchanges.{Begins, Exchanges, Makes}
-use Rattle.authget.specs.Fetched.{Hears, Means, Round, given_for, text_for}
-use Rattle.authget.specs.Outside.{Connected, DialPassed, Outside, Passed, Stage, StopsAt, Unbegun, Unconnected, Undialled, Undrawn, account_at, account_of, no_account}
+use Rattle.authget.specs.Fetched.{Hears, Round, given_for, text_for}
+use Rattle.authget.specs.Outside.{Connected, DialPassed, Outside, Unbegun, Unconnected, Undialled, Undrawn}
 use Rattle.authget.specs.Requests.{peer_of, reply_in, request_for, text_with}
 use Rattle.authget.specs.declared.end.End.{End}
 use Rattle.authget.specs.declared.plan.Plan.{Plan}

@@ -1,5 +1,5 @@
 -- The URLs, one after the other.
-use Rattle.std.proofs.Common.{◌≡◌, ◌+◌, ◌<◌, ◌≤◌, ◌⊎◌, ℕ, zero, suc, Bool, true, false, cond, eqb, List, [], ◌∷◌, ◌++◌, length, take, drop, get_or, Option, Some, None, Ok, Err, refl, sym, ap, ◌∙◌, subst, inl, inr, append_assoc, length-append, arith}
+use Rattle.std.proofs.Common.{◌≡◌, ◌+◌, ◌<◌, ◌≤◌, ◌⊎◌, ℕ, zero, suc, Bool, true, false, List, [], ◌∷◌, ◌++◌, length, take, drop, get_or, Option, Ok, Err, refl, sym, ap, ◌∙◌, subst, inl, inr, append_assoc, length-append, arith}
 use Rattle.std.proofs.lemmas.List.{append-nil, drop_all, drop_more, take-append-le}
 use Rattle.std.proofs.lemmas.Bool.{false≢true, true≢false}
 use Rattle.std.proofs.lemmas.Bool.Decides.{nat_tests}
@@ -9,7 +9,7 @@ use Rattle.auth_io.specs.Causes.{Rose}
 use Rattle.auth_io.proofs.Passing.{Appends_none, Appends_trans}
 use Rattle.client_core.specs.declared.state.State.{State}
 use Rattle.http_wire.specs.declared.response.Response.{Response}
-use Rattle.authget.specs.Endings.{BreaksOff, FetchesSo, IsDone, Leaves, Scene}
+use Rattle.authget.specs.Endings.{BreaksOff, FetchesSo, Leaves, Scene}
 use Rattle.authget.specs.Exchanges.{GetsAll, GetsSome}
 use Rattle.authget.specs.Fetched.{FetchesAll, Follows, Gets, Report, Round, Run, behind, ends, gave_up, got, line_for, nothing, status_by, text_for, then_report, given_for, worse}
 use Rattle.authget.specs.Outside.{Outside, Passed, Unbegun, account_at, account_of, join, no_account}

@@ -1,10 +1,10 @@
 -- Reading a reply.
-use Rattle.std.proofs.Common.{◌≡◌, ◌≤◌, ℕ, Bool, false, List, [], ◌++◌, length, take, Option, Some, None, Result, Ok, Err, refl, sym, ap, ◌∙◌, subst}
+use Rattle.std.proofs.Common.{◌≡◌, ℕ, false, List, [], ◌++◌, length, take, Option, Some, None, Result, Ok, Err, refl, sym, ap, ◌∙◌, subst}
 use Rattle.std.proofs.lemmas.List.{append-nil}
 use Rattle.std.proofs.Math.Seq.{take-length}
 use Rattle.std.specs.Io.KnownBytes.{Appends, Consumes, IsAtEnd}
 use Rattle.http_wire.specs.ResponseFeed.{GivesResponse, EndsResponse, HeldResponse, Holds, Stays, at_end}
-use Rattle.http_wire.specs.Responses.{ResponseFront, Complete, Broken, response_front}
+use Rattle.http_wire.specs.Responses.{ResponseFront, response_front}
 use Rattle.http_wire.specs.Streams.{EndsIn}
 use Rattle.http_wire.specs.declared.response.NextResponse.{NextResponse}
 use Rattle.http_wire.specs.declared.response.NextResponse.TheVariants as next

@@ -1,12 +1,11 @@
 -- The requests for a URL, one after the other.
-use Rattle.std.proofs.Common.{◌≡◌, ◌+◌, ◌-◌, ◌<◌, ℕ, zero, suc, List, [], ◌∷◌, ◌++◌, Option, Some, None, refl, sym, ap, ◌∙◌, subst, append_assoc, arith}
-use Rattle.std.proofs.lemmas.List.{append-nil}
+use Rattle.std.proofs.Common.{◌≡◌, ℕ, zero, suc, List, [], ◌∷◌, ◌++◌, Option, Some, None, refl, sym, ap, ◌∙◌, subst, append_assoc}
 use Rattle.client_core.specs.declared.state.State.{State}
 use Rattle.http_wire.specs.Responses.{response_front}
 use Rattle.http_wire.specs.declared.response.Response.{Response}
 use Rattle.authget.specs.Exchanges.{Begins, GetsAll, GetsSome, Makes}
 use Rattle.authget.specs.Fetched.{Gets, Hears, Means, Round, Run, behind, ends, text_for, given_for}
-use Rattle.authget.specs.Outside.{Outside, Passed, account_at, account_of, join}
+use Rattle.authget.specs.Outside.{Outside, Passed, account_at, account_of}
 use Rattle.authget.specs.Requests.{peer_of, reply_in, request_for}
 use Rattle.authget.specs.declared.end.End.{End}
 use Rattle.authget.specs.declared.end.End.TheVariants.{Malformed, Refused}

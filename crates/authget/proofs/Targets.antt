@@ -1,5 +1,5 @@
 -- URLs that words ask for have targets.
-use Rattle.std.proofs.Common.{◌≡◌, ◌≤◌, ◌<◌, ◌==◌, ◌&&◌, ◌⊎◌, ℕ, Bool, true, false, cond, List, [], ◌∷◌, length, drop, get_or, Option, Some, None, refl, sym, ap, subst, inl, inr, arith, length-drop}
+use Rattle.std.proofs.Common.{◌≡◌, ◌≤◌, ◌==◌, ◌&&◌, ◌⊎◌, ℕ, Bool, true, false, cond, List, [], ◌∷◌, length, get_or, Option, Some, None, refl, subst, inl, inr, arith, length-drop}
 use Rattle.std.specs.Prelude.{All, codes, nat_eq, nat_lt, nat_le}
 use Rattle.std.specs.List.{list_all, position_or_len, starts_with}
 use Rattle.std.proofs.lemmas.Bool.{and_parts}

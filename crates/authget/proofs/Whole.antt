@@ -1,11 +1,10 @@
 -- The program as a whole.
-use Rattle.std.proofs.Common.{◌≡◌, ◌⊎◌, ℕ, true, List, [], Option, Some, None, Result, Ok, Err, take, refl, sym, ap, ◌∙◌, subst, inl, inr}
+use Rattle.std.proofs.Common.{◌≡◌, ◌⊎◌, ℕ, true, List, [], Option, Some, None, Result, Ok, Err, take, refl, sym, ◌∙◌, subst, inl, inr}
 use Rattle.auth_io.proofs.Passing.{Appends_none}
 use Rattle.std.specs.Io.KnownBytes.{Appends}
 use Rattle.client_core.specs.declared.state.State.{State}
 use Rattle.client_core.specs.Clients.{fits, new_state}
-use Rattle.authget.specs.Endings.{Accepts, BreaksOff, Does, Done, Ending, FetchesSo, IsDone, IsRefused, IsUntouched, Performs, Refused, Scene, Stopped, TellsUsage, World, first_state, status_of, usage_line}
-use Rattle.authget.specs.Fetched.{Report}
+use Rattle.authget.specs.Endings.{Accepts, Does, Done, Ending, FetchesSo, IsRefused, Performs, Refused, Stopped, TellsUsage, World, status_of, usage_line}
 use Rattle.authget.specs.Passwords.{ReadsLine}
 use Rattle.authget.specs.Requests.{role_of}
 use Rattle.authget.specs.Stops.{stop_status}

@@ -3,8 +3,8 @@ use Rattle.std.specs.Prelude.{◌≡◌, ◌⊎◌, ℕ, Bool, true, false, List
 use Rattle.std.specs.Io.KnownBytes.{Appends}
 use Rattle.http_wire.specs.declared.response.Response.{Response}
 use Rattle.client_core.specs.declared.state.State.{State}
-use Rattle.authget.specs.Fetched.{Gets, Means, Round, Run, behind, ends, text_for}
-use Rattle.authget.specs.Outside.{Account, CutBy, DialPassed, DialState, Outside, Passed, Stage, StopsAt, account_at, account_of, join}
+use Rattle.authget.specs.Fetched.{Gets, Means, Round, behind, ends, text_for}
+use Rattle.authget.specs.Outside.{CutBy, DialPassed, DialState, Outside, Passed, Stage, StopsAt, account_at, account_of, join}
 use Rattle.authget.specs.Replies.{whole_of}
 use Rattle.authget.specs.Requests.{peer_of, reply_in}
 use Rattle.authget.specs.declared.end.End.{End}

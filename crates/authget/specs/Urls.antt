@@ -1,5 +1,5 @@
 -- URLs and authorities (RFC 9110 section 4.2.1).
-use Rattle.std.specs.Prelude.{ℕ, Bool, ◌+◌, ◌==◌, ◌&&◌, ◌||◌, not, nat_le, nat_lt, nat_eq, bytes_eq, if◌then◌else◌, List, length, drop, codes, decimal}
+use Rattle.std.specs.Prelude.{ℕ, Bool, ◌==◌, ◌&&◌, ◌||◌, not, nat_le, nat_lt, nat_eq, bytes_eq, if◌then◌else◌, List, length, drop, codes, decimal}
 use Rattle.std.specs.List.{after_first, before_first, list_all, list_any, position_or_len, starts_with}
 use Rattle.std.specs.Str.Parse.{digits_value}
 

@@ -1,5 +1,5 @@
 -- Writing a response.
-use Rattle.std.specs.Prelude.{◌≡◌, ◌⊎◌, ℕ, Bool, true, List, [], take, Option, Result, Ok, Err}
+use Rattle.std.specs.Prelude.{◌≡◌, ◌⊎◌, ℕ, Bool, true, List, take, Option, Result, Ok, Err}
 use Rattle.std.specs.Io.KnownBytes.{Appends}
 use Rattle.authget.specs.Telling.{Heard, TellsOn}
 use Rattle.authget.specs.declared.stop.Stop.{Stop}

@@ -1,4 +1,4 @@
-use Rattle.std.proofs.Common.{◌≡◌, ◌∙◌, Err, Ok, List, ℕ, filter, map, string_bytes, subst, sym}
+use Rattle.std.proofs.Common.{◌∙◌, Err, Ok, List, ℕ, filter, map, string_bytes, subst, sym}
 use Rattle.std.proofs.lemmas.Result.{err_from_is_err_and}
 use Rattle.authget.specs.Endings.{scene, world}
 use Rattle.authget.specs.Outside.{dial_of, outside, views}

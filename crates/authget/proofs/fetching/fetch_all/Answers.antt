@@ -1,4 +1,4 @@
-use Rattle.std.proofs.Common.{◌≡◌, ◌+◌, ◌∷◌, ◌∙◌, drop, refl, subst, sym, arith}
+use Rattle.std.proofs.Common.{◌+◌, ◌∙◌, drop, refl, subst, sym, arith}
 use Rattle.std.proofs.lemmas.Result.{err_from_is_err_and}
 use Rattle.authget.specs.Endings.{scene}
 use Rattle.authget.specs.Outside.{dial_of, outside, views}

@@ -1,6 +1,6 @@
-use Rattle.std.proofs.Common.{sym, ◌∙◌, rules, arith}
+use Rattle.std.proofs.Common.{rules, arith}
 use Rattle.std.proofs.lemmas.Bool.Decides.{nat_tests}
-use Rattle.authget.proofs.Ports.{port_of_none, port_of_number}
+use Rattle.authget.proofs.Ports.{port_of_number}
 use Rattle.authget.proofs.urls.is_port.Goals as goal
 
 pub returns-then-number-ge1 : goal.returns-then-number-ge1
