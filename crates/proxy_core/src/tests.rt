@@ -1,4 +1,7 @@
 //! What no clause says: whole exchanges as rows of text. The responses and the server's values are those of sha256sum.
+ghost use Rattle.std.specs.Prelude.{IfOk};
+ghost use Rattle.auth_io.specs.Memory.{IsUnused};
+
 use crate::{ProxySite, proxy_connection};
 use auth_decide::Site;
 use auth_grammar::Octets;
@@ -104,7 +107,9 @@ fn link_of(
     cut: u32,
     failing_read: u32,
     failing_write: u32,
-) -> Result<MemLink, Fail> {
+) -> Result<MemLink, Fail>
+    ensures { IfOk result IsUnused }
+{
     Ok(MemLink::new(
         alloc,
         Octets::of(alloc, input)?,
@@ -144,7 +149,9 @@ fn serve(
     Ok(dial)
 }
 
-fn dial_of(alloc: Global, link: MemLink) -> Result<MemDial, Fail> {
+fn dial_of(alloc: Global, link: MemLink) -> Result<MemDial, Fail>
+    requires { IsUnused link }
+{
     let mut links = Vec::new(alloc);
     links.push(link)?;
     Ok(MemDial::new(alloc, links, vec![in alloc]?)?)
