@@ -326,24 +326,27 @@ fn a_dial_or_a_link_that_fails_is_a_bad_gateway(rt: HostRuntime) -> Result<(), F
     Ok(())
 }
 
-#[test]
-fn a_target_without_an_authority_is_refused_and_not_decided(rt: HostRuntime) -> Result<(), Fail> {
-    let alloc = rt.alloc();
+/// Checks that a request for this target is refused, and nobody is dialled, where its bytes come in pieces of this size.
+fn check_refused(rt: &impl Abort, alloc: Global, target: &[u8], cut: u32) -> Result<(), Fail> {
     let refusal =
         b"HTTP/1.1 400 Bad Request\r\nDate: Thu, 01 Jan 1970 00:00:00 GMT\r\nContent-Length: 12\r\n\r\nBad Request\n";
+    let parts: [&[u8]; 3] = [b"GET ", target, b" HTTP/1.1\r\nHost: example.org\r\n\r\n"];
+    let request = joined(alloc, &parts)?;
+    let none = MemDial::new(alloc, Vec::new(alloc), vec![in alloc]?)?;
+    let dial = serve(rt, alloc, request.bytes(), cut, none, refusal)?;
+    assert_eq!(rt; dial.dialled().len(), 0);
+    Ok(())
+}
+
+#[test]
+fn a_target_without_an_authority_is_refused_and_not_decided(rt: HostRuntime) -> Result<(), Fail> {
     for target in [
         b"/a".as_slice(),
         b"http:///a",
         b"https://example.org/",
         b"example.org:443",
     ] {
-        let request = joined(
-            alloc,
-            &[b"GET ", target, b" HTTP/1.1\r\nHost: example.org\r\n\r\n"],
-        )?;
-        let none = MemDial::new(alloc, Vec::new(alloc), vec![in alloc]?)?;
-        let dial = serve(&rt, alloc, request.bytes(), 9, none, refusal)?;
-        assert_eq!(rt; dial.dialled().len(), 0);
+        check_refused(&rt, rt.alloc(), target, 9)?;
     }
     Ok(())
 }
@@ -373,6 +376,7 @@ fn the_replies_are_the_same_in_any_cutting(rt: HostRuntime) -> Result<(), Fail> 
         let cuts = (cut, 1 + cut % 42);
         check_cut(&rt, alloc, request.bytes(), OK, cuts, passed.bytes())?;
         check_cut(&rt, alloc, request.bytes(), SHORT, cuts, bad.bytes())?;
+        check_refused(&rt, alloc, b"/a", cut)?;
     }
     Ok(())
 }
