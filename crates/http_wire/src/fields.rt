@@ -156,8 +156,9 @@ impl Fields {
         true
     }
 
-    // whether a value of a name has that token between its commas
-    pub(crate) fn has_token(&self, name: &[u8], token: &[u8]) -> bool
+    /// Whether a value of this name, which is given in lower case, has that token between its commas, whatever the
+    /// token's case. Spaces and tabs round a part don't count (RFC 9110 section 5.6.1).
+    pub fn has_token(&self, name: &[u8], token: &[u8]) -> bool
         ensures { result ≡ has_token (values_of self.now name.now) token.now }
     {
         for (written, value) in self.map.iter() {
