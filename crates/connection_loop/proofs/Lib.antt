@@ -5,5 +5,6 @@ pub mod Arrivals
 pub mod Steps
 pub mod Whole
 pub mod Requests
+pub mod Walks
 pub mod Bounds
 pub mod Prefixes

@@ -38,7 +38,7 @@ use Rattle.request_deciding.specs.declared.events.Operation.{Operation}
 use Rattle.request_deciding.specs.declared.events.Operation.TheVariants.{Inquire, Behind as WantBehind}
 use Rattle.request_deciding.specs.declared.server.Server.{Server}
 use Rattle.served_requests.proofs.Requests.{Decider, Moved, asked_each, decided_by, told_by}
-use Rattle.served_requests.proofs.Walks.{Walk, turn_uses}
+use Rattle.connection_loop.proofs.Walks.{Walk, turn_uses}
 use Rattle.served_requests.specs.Admissions.{AdmitsRightly, AnswersNone, AreServed, Deciding, IsAnsweredBy, IsReadOf, IsRightlyAnswered, ServedRequest, ServesRequests, events_of, steps_of}
 use Rattle.served_requests.specs.Conduct.{Conduct, Follows, move_on}
 

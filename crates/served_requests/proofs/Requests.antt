@@ -29,7 +29,7 @@ use Rattle.request_deciding.specs.declared.events.Inquiry.TheVariants.{ReadCrede
 use Rattle.request_deciding.specs.declared.events.Operation.{Operation}
 use Rattle.request_deciding.specs.declared.events.Operation.TheVariants.{Inquire, Behind as WantBehind}
 use Rattle.request_deciding.specs.declared.server.Server.{Server}
-use Rattle.served_requests.proofs.Walks.{Walk}
+use Rattle.connection_loop.proofs.Walks.{Walk}
 use Rattle.served_requests.specs.Admissions.{finding_of}
 use Rattle.served_requests.specs.Conduct.{server_in}
 
