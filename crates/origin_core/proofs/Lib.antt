@@ -1,6 +1,3 @@
-pub mod Bounds
 pub mod Plans
-pub mod Walks
-pub mod Requests
-pub mod Connections
 pub mod Never
+pub mod Admitted

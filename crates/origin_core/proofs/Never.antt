@@ -8,7 +8,7 @@ use Rattle.auth_decide.specs.declared.credentials.RequestCredentials.{RequestCre
 use Rattle.auth_decide.specs.declared.verdict.Ask.{Ask}
 use Rattle.auth_decide.specs.declared.verdict.Ask.TheVariants as ask
 use Rattle.auth_grammar.specs.declared.items.Role.TheVariants.{Origin}
-use Rattle.connection_loop.proofs.Bounds.{stop_weight, total}
+use Rattle.connection_loop.proofs.Bounds.{Spends, session_weighs, stop_weight, total}
 use Rattle.connection_loop.specs.Account.{Account, supply_of}
 use Rattle.connection_loop.specs.Machine.{Incoming, Move, Asks, Says}
 use Rattle.connection_loop.specs.Results.{Stalls, Tells, read_session}
@@ -19,21 +19,33 @@ use Rattle.connection_loop.specs.declared.served.Served.{Served}
 use Rattle.nonce_shard.proofs.JournalSeat.{never_worn}
 use Rattle.nonce_shard.specs.Journal.{Journal, seat_of}
 use Rattle.nonce_shard.specs.declared.calls.Call.{Call}
+use Rattle.request_deciding.proofs.Decisions.{answers_in-append}
 use Rattle.request_deciding.specs.Findings.{answers_in, behind_in, calls_in, credentials_in, found_in}
 use Rattle.request_deciding.specs.Laws.{found_in-append}
 use Rattle.request_deciding.specs.Outside.{TableState, TablePassed, LackedBy}
 use Rattle.request_deciding.specs.Serving.{lifted, move_by, next_by_ask, next_with, question_of}
+use Rattle.request_deciding.specs.declared.events.Event.{Event}
 use Rattle.request_deciding.specs.declared.events.Event.TheVariants.{Found, Behind}
 use Rattle.request_deciding.specs.declared.events.Finding.TheVariants.{CredentialsRead, Drew, Called}
 use Rattle.request_deciding.specs.declared.events.Inquiry.{Inquiry}
 use Rattle.request_deciding.specs.declared.events.Inquiry.TheVariants.{ReadCredentials, Draw, CallTable}
+use Rattle.request_deciding.specs.declared.events.Operation.{Operation}
 use Rattle.request_deciding.specs.declared.events.Operation.TheVariants.{Inquire, Behind as WantBehind}
 use Rattle.request_deciding.specs.declared.server.Server.{Server}
-use Rattle.origin_core.proofs.Bounds.{Spends, session_weighs}
-use Rattle.origin_core.proofs.Requests.{Done, Moved, Wanted, answers_in-append}
 use Rattle.origin_core.specs.Serving.{course, origin}
 use Rattle.origin_core.specs.declared.alone.TheConstants.{CONNECTION_CALLS}
+use Rattle.origin_core.specs.declared.events.FileEvent.{FileEvent}
 use Rattle.origin_core.specs.declared.events.FileOperation.{FileOperation}
+
+-- what is done for a request, what it wants, and what comes next
+abbrev Done : Type 0
+Done = Event FileEvent
+
+abbrev Wanted : Type 0
+Wanted = Operation FileOperation
+
+abbrev Moved : Type 0
+Moved = Move Wanted Server
 
 -- calls of the table
 abbrev calls_for : Inquiry → ℕ

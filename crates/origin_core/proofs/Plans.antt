@@ -18,19 +18,18 @@ use Rattle.auth_io.proofs.Passing.{AddsAsked_none}
 use Rattle.connection_loop.specs.Machine.{Incoming, Asks, Move, Responds, Says}
 use Rattle.connection_loop.specs.declared.responder.RespondError.{RespondError}
 use Rattle.connection_loop.specs.declared.responder.Response.{Response}
-use Rattle.request_deciding.proofs.Machines.{answer_of, behind_events, behind_in-found, behind_of, carried_out, found_events, found_in-found, found_of, gives_up}
+use Rattle.request_deciding.proofs.Machines.{GoesBy, answer_of, behind_events, behind_in-found, behind_of, carried_out, found_events, found_in-found, found_of, gives_up}
 use Rattle.request_deciding.specs.Deciding.{AreWanted, Decides}
 use Rattle.request_deciding.specs.Outside.{LackedBy, TablePassed, TableState}
 use Rattle.request_deciding.specs.declared.events.Event.{Event}
 use Rattle.request_deciding.specs.declared.events.Finding.{Finding}
 use Rattle.request_deciding.specs.declared.server.Server.{Server}
-use Rattle.origin_core.proofs.Requests.{goes_by, says_reply}
 use Rattle.origin_core.specs.Carrying.{CarriesOut, IsCarriedOut}
 use Rattle.origin_core.specs.Events.{IsSound, operation_of, replaced_by}
 use Rattle.origin_core.specs.Laws.{files_none}
 use Rattle.origin_core.specs.Outside.{FilesPassed, FilesState, Outside, Passed, outside_of}
 use Rattle.origin_core.specs.Replies.{found_reply, plan_of, replaced_reply, status_of, status_reply}
-use Rattle.origin_core.specs.Serving.{carry_out, course, operation_for, origin, plan_reply}
+use Rattle.origin_core.specs.Serving.{carry_out, course, operation_for, origin, plan_reply, says_or}
 use Rattle.origin_core.specs.declared.carrying.TheConstants.{FILE_LIMIT}
 use Rattle.origin_core.specs.declared.events.FileEvent.{FileEvent}
 use Rattle.origin_core.specs.declared.events.FileEvent.TheVariants.{FileRead, FileReplaced}
@@ -41,6 +40,10 @@ use Rattle.origin_core.specs.declared.plan.Plan.TheVariants.{Refuse, Read, Repla
 use Rattle.origin_core.specs.declared.plan.Refusal.{Refusal}
 
 -- ---- what a plan wants
+
+-- the site's server decides first, and then carries the verdict's plan out
+goes_by : (s : Server) (t : Incoming) → GoesBy origin Origin course operation_of s t
+goes_by s t = record { moves = λ events. refl; tells = λ event. refl }
 
 -- before anything was done with a file, a plan asks for what it wants
 asks_file : (s : Server) (incoming : Incoming) (verdict : Verdict) (plan : Plan) (event : FileEvent) → operation_for incoming plan ≡ Some (operation_of event) → carry_out s incoming verdict plan [] ≡ Asks (operation_of event) s
@@ -53,6 +56,15 @@ asks_file s incoming verdict (Replace name) event is =
     let same : Some (ReplaceFile name incoming.request.body) ≡ Some (operation_of event) = is in
     let one : ReplaceFile name incoming.request.body ≡ operation_of event = cc in
     ap (λ (o : FileOperation). let move : Move FileOperation Server = Asks o s in move) one
+
+-- after it the reply is said
+says_reply : (s : Server) (incoming : Incoming) (verdict : Verdict) (plan : Plan) (events : List FileEvent) (reply : Response) → plan_reply incoming verdict plan events ≡ Some reply → carry_out s incoming verdict plan events ≡ Says reply s
+says_reply s incoming verdict (Refuse refusal) events reply is =
+    let same : Some (status_reply incoming verdict (status_of refusal)) ≡ Some reply = is in
+    let one : status_reply incoming verdict (status_of refusal) ≡ reply = cc in
+    ap (λ (r : Response). let move : Move FileOperation Server = Says r s in move) one
+says_reply s incoming verdict (Read name) events reply is = ap (says_or s (ReadFile name)) is
+says_reply s incoming verdict (Replace name) events reply is = ap (says_or s (ReplaceFile name incoming.request.body)) is
 
 abbrev plan_for : Server → Incoming → Verdict → Plan
 plan_for s incoming verdict = plan_of s.site.root incoming.request verdict

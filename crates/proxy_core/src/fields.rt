@@ -1,13 +1,8 @@
 //! The fields that are passed on.
-ghost use Rattle.std.specs.Prelude.{◌≡◌, ◌++◌, ◌∷◌, [], List, ℕ, IfOk, OnOk, codes, filter, reverse};
-ghost use Rattle.std.specs.List.{list_any};
-ghost use Rattle.auth_grammar.specs.Names.{same_name};
-ghost use Rattle.httparse.specs.Grammar.{skip_ows, trim_ows};
-ghost use Rattle.http_wire.specs.Fields.{values_of};
-ghost use Rattle.http_wire.specs.Values.{has_token, parts_at_commas};
+ghost use Rattle.std.specs.Prelude.{◌≡◌, ◌++◌, IfOk, OnOk, filter};
 ghost use Rattle.proxy_core.specs.Fields.{is_among, is_passed, lines_up, names_kept, own_names, passed_lines, via_line};
 
-use auth_grammar::{Octets, OctetsList, OutOfMemory, same_name};
+use auth_grammar::{Octets, OutOfMemory, same_name};
 use http_wire::{Fields, Pair, PairList};
 use std::alloc::Global;
 
@@ -46,71 +41,24 @@ fn is_kept_name(way: Way, name: &[u8]) -> bool
     }
 }
 
-fn trim_front(bytes: &[u8]) -> &[u8]
-    ensures { result.now ≡ skip_ows bytes.now }
+/// Whether a field of this name is passed on, where it is one of these.
+fn is_passed(way: Way, fields: &Fields, name: &[u8]) -> bool
+    ensures { result ≡ is_passed way fields.now name.now }
 {
-    let mut rest = bytes;
-    while let [b' ' | b'\t', after @ ..] = rest {
-        rest = after;
-    }
-    rest
+    !is_kept_name(way, name) && !fields.has_token(b"connection", name)
 }
 
-fn trim_back(bytes: &[u8]) -> &[u8]
-    ensures { result.now ≡ reverse (skip_ows (reverse bytes.now)) }
-{
-    let mut rest = bytes;
-    while let [before @ .., b' ' | b'\t'] = rest {
-        rest = before;
-    }
-    rest
-}
-
-#[tactic(auto, unfolding(httparse::specs::Grammar::trim_ows))]
-fn trim(bytes: &[u8]) -> &[u8]
-    ensures { result.now ≡ trim_ows bytes.now }
-{
-    trim_back(trim_front(bytes))
-}
-
-/// Whether a part between commas is that token.
-fn has_part(value: &[u8], token: &[u8]) -> bool
-    ensures { result ≡ list_any (λ part. same_name (trim_ows part) token.now) (parts_at_commas value.now) }
-{
-    value
-        .split(|b| *b == b',')
-        .any(|part| same_name(trim(part), token))
-}
-
-/// Whether one of these values lists that token.
-fn is_listed(values: &OctetsList, token: &[u8]) -> bool
-    ensures { result ≡ has_token values.now token.now }
-{
-    values
-        .as_slice()
-        .iter()
-        .any(|value| has_part(value.bytes(), token))
-}
-
-/// Whether a field of this name is passed on, where `Connection` has these values.
-fn is_passed(way: Way, listed: &OctetsList, name: &[u8]) -> bool
-    ensures { (fields : List (List ℕ × List ℕ)) → listed.now ≡ values_of fields (codes "connection") → result ≡ is_passed way fields name.now }
-{
-    !is_kept_name(way, name) && !is_listed(listed, name)
-}
-
-/// Adds those of these fields that are passed on, where `Connection` has these values.
+/// Adds those of these pairs that are passed on, where all are these fields.
 fn put_passed(
     lines: &mut PairList,
     way: Way,
-    listed: &OctetsList,
-    fields: PairList,
+    fields: &Fields,
+    pairs: PairList,
 ) -> Result<(), OutOfMemory>
-    ensures { (all : List (List ℕ × List ℕ)) → listed.now ≡ values_of all (codes "connection") →
-        OnOk result (lines.new ≡ lines.old ++ filter (λ pair. is_passed way all pair.name) fields) }
+    ensures { OnOk result (lines.new ≡ lines.old ++ filter (λ pair. is_passed way fields.now pair.name) pairs) }
 {
-    for pair in fields.into_vec() {
-        if is_passed(way, listed, pair.name.bytes()) {
+    for pair in pairs.into_vec() {
+        if is_passed(way, fields, pair.name.bytes()) {
             lines.push(pair)?;
         }
     }
@@ -125,10 +73,9 @@ pub(crate) fn passed_lines(
 ) -> Result<PairList, OutOfMemory>
     ensures { IfOk result (λ lines. lines ≡ passed_lines way fields.now) }
 {
-    let listed = fields.lines(alloc, b"connection")?;
     let pairs = fields.pairs(alloc)?;
     let mut lines = PairList::new(alloc);
-    put_passed(&mut lines, way, &listed, pairs)?;
+    put_passed(&mut lines, way, fields, pairs)?;
     Ok(lines)
 }
 

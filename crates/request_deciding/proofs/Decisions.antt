@@ -52,7 +52,7 @@ none_made seat = All-nil (λ (m : Made). m.shard < seat.shards)
 
 -- ---- findings that follow others
 
-answers_in-append : (xs ys : List Finding) → answers_in (xs ++ ys) ≡ answers_in xs ++ answers_in ys
+pub answers_in-append : (xs ys : List Finding) → answers_in (xs ++ ys) ≡ answers_in xs ++ answers_in ys
 answers_in-append [] ys = refl
 answers_in-append (CredentialsRead lines credentials ∷ xs) ys = answers_in-append xs ys
 answers_in-append (Drew words ∷ xs) ys = ap (λ (l : List Answer). Words words ∷ l) (answers_in-append xs ys)

@@ -1,5 +1,5 @@
 use Rattle.std.proofs.Common.{rules}
-use Rattle.origin_core.proofs.Connections.{serves_connection}
+use Rattle.origin_core.proofs.Admitted.{serves_connection}
 use Rattle.origin_core.proofs.serving.serve_connection.Goals as goal
 
 pub returns-clause-serves : goal.returns-clause-serves

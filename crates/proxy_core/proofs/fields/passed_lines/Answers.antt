@@ -5,6 +5,5 @@ use Rattle.proxy_core.proofs.fields.passed_lines.Goals as goal
 
 pub returns : goal.returns
 returns c =
-    let put = c.in_ok-put_passed.ensures c.args.fields.now c.in_ok-listed.ensures in
     kept_all c.args.way c.args.fields.now c.in_ok-pairs.pairs c.put_passed.new.lines c.in_ok-pairs.ensures.pairs
-    (put ∙ ap (λ (l : List Pair). l ++ kept c.args.way c.args.fields.now c.in_ok-pairs.pairs) c.new-lines.ensures)
+    (c.in_ok-put_passed.ensures ∙ ap (λ (l : List Pair). l ++ kept c.args.way c.args.fields.now c.in_ok-pairs.pairs) c.new-lines.ensures)
