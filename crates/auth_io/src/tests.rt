@@ -114,6 +114,41 @@ fn files_on_disk_are_read_and_replaced(rt: HostRuntime) -> Result<(), Fail> {
     Ok(())
 }
 
+/// A file of so many bytes is read as it was written, where the limit allows it.
+fn check_whole<F: Files>(
+    rt: &impl Abort,
+    alloc: Global,
+    files: &mut F,
+    len: usize,
+) -> Result<(), Fail> {
+    let mut bytes = Vec::new(alloc);
+    for at in 0..len {
+        bytes.push((at % 251) as u8)?;
+    }
+    assert_eq!(rt; files.replace(b"whole", bytes.as_slice()), Replaced::Done);
+    match files.read(b"whole", len as u64) {
+        FileAnswer::Found(found) => assert_eq!(rt; found.bytes(), bytes.as_slice()),
+        _ => panic!(rt; "the file isn't read"),
+    }
+    check_read(
+        rt,
+        files,
+        b"whole",
+        (len as u64).saturating_sub(1),
+        "too large",
+    );
+    Ok(())
+}
+
+#[test]
+fn short_and_long_files_on_disk_are_read_whole(rt: HostRuntime) -> Result<(), Fail> {
+    let mut files = DiskFiles::new(&rt, rt.alloc());
+    for len in [511, 512, 513, 5_000] {
+        check_whole(&rt, rt.alloc(), &mut files, len)?;
+    }
+    Ok(())
+}
+
 #[test]
 fn a_link_over_std_reads_and_writes(rt: HostRuntime) -> Result<(), Fail> {
     let alloc = rt.alloc();

@@ -74,18 +74,24 @@ impl Counts {
     }
 }
 
+/// One read, made again where it was interrupted.
+pub(crate) fn read_again<R: Read>(reader: &mut R, into: &mut [u8]) -> std::io::Result<usize>
+    ensures { IfOk result (λ count. count ≤ length into.new) }
+{
+    for _ in 0..TRIES {
+        match reader.read(into) {
+            Err(error) if error.kind() == ErrorKind::Interrupted => {}
+            result => return result,
+        }
+    }
+    Err(std::io::Error::from(ErrorKind::Interrupted))
+}
+
 /// One read, or None where it failed.
 pub(crate) fn read_some<R: Read>(reader: &mut R, into: &mut [u8]) -> Option<usize>
     ensures { IfSome result (λ count. count ≤ length into.new) }
 {
-    for _ in 0..TRIES {
-        match reader.read(into) {
-            Ok(count) => return Some(count),
-            Err(error) if error.kind() == ErrorKind::Interrupted => {}
-            Err(_) => return None,
-        }
-    }
-    None
+    read_again(reader, into).ok()
 }
 
 /// One write. A write that takes nothing of some bytes is a fault.

@@ -1,12 +1,16 @@
 //! Files on disk.
 ghost use Rattle.std.specs.Prelude.{◌≡◌, ◌≤◌, IfOk, length};
 
+use crate::adapters::counts::read_again;
 use crate::files::{FileAnswer, Files, Replaced};
 use auth_grammar::Octets;
 use std::alloc::{AllocError, Global};
 use std::fs::{File, OpenFile};
 use std::io::{ErrorKind, Read, Write};
 use std::rt::Files as FileSystem;
+
+/// A file shorter than so many bytes is read whole at once.
+const SHORT_BYTES: usize = 512;
 
 /// How many names for a new file beside the old one are tried.
 const SPARE_NAMES: u32 = 64;
@@ -69,26 +73,66 @@ fn path_of(name: &[u8]) -> Result<&str, Cause> {
     str::from_utf8(name).map_err(|_| Cause::Absent)
 }
 
-/// All that a reader gives, where it is at most `limit` bytes. It is thought to be this many.
-fn read_whole<F: Read + Drop>(
-    alloc: Global,
-    reader: F,
-    expected: u64,
-    limit: u64,
-) -> Result<Octets, Cause>
+/// Reads on until the buffer is full or the reader has ended. Answers how much of it is filled.
+fn fill_from<F: Read>(reader: &mut F, into: &mut [u8]) -> Result<usize, Cause>
+    ensures { IfOk result (λ count. count ≤ length into.new) }
+{
+    let mut at = 0;
+    while at < into.len() {
+        match read_again(reader, &mut into[at..])? {
+            0 => return Ok(at),
+            count => at += count,
+        }
+    }
+    Ok(at)
+}
+
+/// These bytes, where they are at most `limit`.
+fn within(bytes: Vec<u8>, limit: u64) -> Result<Octets, Cause>
     ensures { IfOk result (λ bytes. length bytes ≤ limit) }
 {
-    let mut bytes = Vec::with_capacity(alloc, expected as usize)?;
-    reader
-        .take(limit.saturating_add(1))
-        .read_to_end(&mut bytes)?;
     if bytes.len() as u64 > limit {
         return Err(Cause::TooLarge);
     }
     Ok(Octets::from_vec(bytes))
 }
 
-/// The bytes of a file, where there are at most `limit`.
+/// These bytes and all that a reader gives behind them, where they are together at most `limit`.
+fn with_rest<F: Read + Drop>(mut bytes: Vec<u8>, reader: F, limit: u64) -> Result<Octets, Cause>
+    ensures { IfOk result (λ bytes. length bytes ≤ limit) }
+{
+    let room = limit.saturating_add(1).saturating_sub(bytes.len() as u64);
+    reader.take(room).read_to_end(&mut bytes)?;
+    within(bytes, limit)
+}
+
+/// The bytes of a front and all that a reader gives behind it, where they are together at most `limit`. They are thought
+/// to be this many, and get memory for one more, in which their end shows.
+fn read_behind<F: Read + Drop>(
+    alloc: Global,
+    front: &[u8],
+    mut reader: F,
+    expected: u64,
+    limit: u64,
+) -> Result<Octets, Cause>
+    ensures { IfOk result (λ bytes. length bytes ≤ limit) }
+{
+    let behind = (expected as usize)
+        .saturating_sub(front.len())
+        .saturating_add(1);
+    let room = front.len().saturating_add(behind);
+    let mut bytes = Vec::with_capacity(alloc, room)?;
+    bytes.extend_from_slice(front)?;
+    bytes.resize(room, 0)?;
+    let count = fill_from(&mut reader, &mut bytes[front.len()..])?;
+    if count == behind {
+        return with_rest(bytes, reader, limit);
+    }
+    bytes.truncate(front.len() + count);
+    within(bytes, limit)
+}
+
+/// The bytes of a file, where there are at most `limit`. Its length is asked for only where it isn't a short one.
 fn read_file<R: FileSystem>(
     system: &R,
     alloc: Global,
@@ -97,15 +141,17 @@ fn read_file<R: FileSystem>(
 ) -> Result<Octets, Cause>
     ensures { IfOk result (λ bytes. length bytes ≤ limit) }
 {
-    let file = File::open(system, path_of(name)?)?;
-    let metadata = OpenFile::metadata(&file)?;
-    if metadata.is_dir() {
-        return Err(Cause::Absent);
+    let mut file = File::open(system, path_of(name)?)?;
+    let mut front = [0; SHORT_BYTES];
+    let count = fill_from(&mut file, &mut front)?;
+    if count < SHORT_BYTES {
+        return within(Vec::from_slice(alloc, &front[..count])?, limit);
     }
-    if metadata.len() > limit {
+    let expected = OpenFile::metadata(&file)?.len();
+    if expected > limit {
         return Err(Cause::TooLarge);
     }
-    read_whole(alloc, file, metadata.len(), limit)
+    read_behind(alloc, &front, file, expected, limit)
 }
 
 /// A name beside the given one.
