@@ -6,6 +6,7 @@ ghost use Rattle.auth_io.specs.Causes.{Rose};
 ghost use Rattle.connection_loop.specs.Account.{link_of};
 ghost use Rattle.connection_loop.specs.Results.{ServesSession, OnlyLastCloses, EndsWell, EndsAtLimit};
 
+use crate::reading::PIECE_BYTES;
 use crate::responder::Responder;
 use crate::served::{End, ServeError, Served};
 use crate::serving::{REQUEST_LIMIT, Step, serve_next};
@@ -40,9 +41,12 @@ pub fn drive<L: Link, C: Clock, R: Responder>(
     ensures write_later { L.write_faults link.old ≤ L.write_faults link.new }
 {
     let mut feed = RequestFeed::new(alloc);
+    let mut piece = [0; PIECE_BYTES];
     let mut admitted: u32 = 0;
     for requests in 0..REQUEST_LIMIT {
-        match serve_next(alloc, link, clock, responder, &mut feed, requests, admitted)? {
+        match serve_next(
+            alloc, link, clock, responder, &mut feed, &mut piece, requests, admitted,
+        )? {
             Step::More { admitted: one } => admitted += one,
             Step::Over(served) => return Ok(served),
         }

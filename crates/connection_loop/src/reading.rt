@@ -19,8 +19,18 @@ pub enum Arrived {
     NoMore,
 }
 
+/// How many bytes one read takes at most.
+pub const PIECE_BYTES: usize = 4096;
+
+/// Memory for one read, which all reads of a connection share.
+pub type Piece = [u8; PIECE_BYTES];
+
 /// Reads a piece of the input into the feed. Whether there was any.
-fn read_piece<L: Link>(link: &mut L, feed: &mut RequestFeed) -> Result<bool, ServeError>
+fn read_piece<L: Link>(
+    link: &mut L,
+    feed: &mut RequestFeed,
+    piece: &mut Piece,
+) -> Result<bool, ServeError>
     requires going { feed.old.stopped ≡ false }
     requires within { feed.old.at + length feed.old.rest ≤ L.given link.old }
     ensures piece { let at = link_of L.left L.given L.written L.reads in ReadsPiece (at link.old) (at link.new) feed.old feed.new result }
@@ -28,8 +38,7 @@ fn read_piece<L: Link>(link: &mut L, feed: &mut RequestFeed) -> Result<bool, Ser
     ensures write_faults { L.write_faults link.new ≡ L.write_faults link.old }
     ensures fault { result ≡ Err ServeError.ReadFault → Rose (L.read_faults link.old) (L.read_faults link.new) }
 {
-    let mut piece = [0; 4096];
-    let Ok(count) = link.read(&mut piece) else {
+    let Ok(count) = link.read(piece) else {
         return Err(ServeError::ReadFault);
     };
     feed.push(&piece[..count])?;
@@ -37,7 +46,11 @@ fn read_piece<L: Link>(link: &mut L, feed: &mut RequestFeed) -> Result<bool, Ser
 }
 
 /// Reads on until a message stands at the front of the input, or none can. A Continue that is due is written on the way.
-pub fn next_message<L: Link>(link: &mut L, feed: &mut RequestFeed) -> Result<Arrived, ServeError>
+pub fn next_message<L: Link>(
+    link: &mut L,
+    feed: &mut RequestFeed,
+    piece: &mut Piece,
+) -> Result<Arrived, ServeError>
     requires between { IsBetween feed.old }
     requires within { feed.old.at + length feed.old.rest ≤ L.given link.old }
     ensures reads { let at = link_of L.left L.given L.written L.reads in
@@ -56,7 +69,7 @@ pub fn next_message<L: Link>(link: &mut L, feed: &mut RequestFeed) -> Result<Arr
             Next::Message(request) => return Ok(Arrived::Message(request)),
             Next::Continue => write_all(link, continue_text())?,
             Next::NeedMore => {
-                if !read_piece(link, feed)? {
+                if !read_piece(link, feed, piece)? {
                     return Ok(Arrived::NoMore);
                 }
             }

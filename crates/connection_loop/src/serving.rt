@@ -7,7 +7,7 @@ ghost use Rattle.connection_loop.specs.Session.{is_last, admits, refusal};
 ghost use Rattle.connection_loop.specs.Account.{LinkPassed, link_of};
 ghost use Rattle.connection_loop.specs.Steps.{IsBetween, SendsText, Serves, request_account, place_at, StepsFrom, StepLeavesNone, AdmitsOne, step_after};
 
-use crate::reading::{Arrived, next_message};
+use crate::reading::{Arrived, Piece, next_message};
 use crate::responder::{Lack, RespondError, Responder, Response};
 use crate::sending::write_all;
 use crate::served::{End, ServeError, Served};
@@ -143,6 +143,7 @@ pub fn serve_next<L: Link, C: Clock, R: Responder>(
     clock: &mut C,
     responder: &mut R,
     feed: &mut RequestFeed,
+    piece: &mut Piece,
     requests: u32,
     admitted: u32,
 ) -> Result<Step, ServeError>
@@ -161,7 +162,7 @@ pub fn serve_next<L: Link, C: Clock, R: Responder>(
     ensures read_fault { result ≡ Err ServeError.ReadFault → Rose (L.read_faults link.old) (L.read_faults link.new) }
     ensures write_fault { result ≡ Err ServeError.WriteFault → Rose (L.write_faults link.old) (L.write_faults link.new) }
 {
-    match next_message(link, feed)? {
+    match next_message(link, feed, piece)? {
         Arrived::Message(request) => {
             let last = closes_after(request.closes, requests);
             let one = serve_request(alloc, link, clock, responder, &request, last)?;
