@@ -1,9 +1,11 @@
 -- The search for a head's end, step by step.
-use Rattle.std.proofs.Common.{◌≡◌, ◌∷◌, [], ◌++◌, ◌<◌, ◌≤◌, ◌+◌, ◌-◌, ℕ, suc, List, length, take, drop, Option, Some, None, Bool, true, false, cond, sym, refl, ap, ◌∙◌, subst, length-append, length-drop, arith}
+use Rattle.std.proofs.Common.{◌≡◌, ◌∷◌, [], ◌++◌, ◌<◌, ◌≤◌, ◌+◌, ◌-◌, ℕ, zero, suc, List, length, take, drop, Option, Some, None, Bool, true, false, cond, sym, refl, ap, ◌∙◌, subst, length-append, length-drop, arith}
 use Rattle.std.specs.Prelude.{◌==◌, ◌&&◌, nat_lt}
 use Rattle.std.specs.Option.{option_map}
-use Rattle.std.proofs.lemmas.Bool.{lt-ltb}
-use Rattle.std.proofs.lemmas.List.{append-nil, drop-append-le, drop-drop, take_all}
+use Rattle.std.proofs.lemmas.Bool.{false_from_ne_true, lt-ltb}
+use Rattle.std.proofs.Math.ListN.{get_or}
+use Rattle.std.proofs.lemmas.List.{append-nil, drop-append-le, drop-drop, get_or-drop, take_all}
+use Rattle.memchr.specs.Find.{Nowhere, Passes, IsFirstByte, is_byte}
 use Rattle.http_wire.specs.declared.search.Place.TheVariants.{Blank, Head}
 use Rattle.http_wire.specs.HeadPlace.{empty_line, ends_here, blank_len, head_len, place_after, head_place}
 use Rattle.http_wire.specs.Search.{IsOpen, TellsLine, end_here, IsOpenEnd, TellsEnd, end_from, GoesOn, Tracks}
@@ -163,6 +165,26 @@ module _ (bytes : List ℕ) (from at : ℕ) where
 pub goes_start : (bytes : List ℕ) (from : ℕ) → from ≤ length bytes → GoesOn bytes from from
 goes_start bytes from l = record { within = l; goes_on = λ more. refl }
 
+pub goes_further : (bytes : List ℕ) (from at to : ℕ) → GoesOn bytes from at → GoesOn bytes at to → GoesOn bytes from to
+goes_further bytes from at to g h = record { within = h.within; goes_on = λ more. g.goes_on more ∙ h.goes_on more }
+
+-- ---- no line feed, no end
+
+other_byte : (d : List ℕ) → 0 < length d → (get_or d 0 0 == 10) ≡ false → TellsEnd d (Some 0)
+other_byte [] l other = absurd (omega arith)
+other_byte (b ∷ d) l other = (omega arith, l, λ more. ap (λ (t : Bool). cond (t && nat_lt 0 (empty_line (d ++ more))) (suc (empty_line (d ++ more))) 0) other)
+
+-- no end before the first line feed
+pub goes_over : (bytes : List ℕ) (from n : ℕ) → from + n ≤ length bytes → ((k : ℕ) → k < n → (get_or (drop from bytes) k 0 == 10) ≡ false) → GoesOn bytes from (from + n)
+goes_over bytes from zero within other = subst (GoesOn bytes from) (omega arith) (goes_start bytes from (omega arith))
+goes_over bytes from (suc n) within other =
+    let size : length (drop (from + n) bytes) ≡ length bytes - (from + n) = length-drop (from + n) bytes in
+    let here : get_or (drop from bytes) n 0 ≡ get_or (drop (from + n) bytes) 0 0 = get_or-drop from bytes n 0 ∙ sym (get_or-drop (from + n) bytes 0 0 ∙ ap (λ (k : ℕ). get_or bytes k 0) (omega arith)) in
+    let more : 0 < length (drop (from + n) bytes) = omega arith in
+    let no_feed : (get_or (drop (from + n) bytes) 0 0 == 10) ≡ false = ap (λ (b : ℕ). b == 10) (sym here) ∙ other n (omega arith) in
+    let before = goes_over bytes from n (omega arith) (λ k l. other k (omega arith)) in
+    subst (GoesOn bytes from) (omega arith) (end_step bytes from (from + n) before (other_byte (drop (from + n) bytes) more no_feed))
+
 -- ---- a head whose beginning was found
 
 module _ (bytes : List ℕ) (start from : ℕ) (t : Tracks bytes (Head start from)) where
@@ -190,6 +212,25 @@ module _ (bytes : List ℕ) (start from : ℕ) (t : Tracks bytes (Head start fro
 
 pub rest_is : (bytes : List ℕ) (at : ℕ) → take (length bytes - at) (drop at bytes) ≡ drop at bytes
 rest_is bytes at = let size : length (drop at bytes) ≡ length bytes - at = length-drop at bytes in take_all (length bytes - at) (drop at bytes) (omega arith)
+
+-- ---- at what a search of these bytes for a line feed gives
+
+no_feed : (d : List ℕ) (n : ℕ) → Nowhere (Passes (is_byte 10) d) 0 n → (k : ℕ) → k < n → (get_or d k 0 == 10) ≡ false
+no_feed d n none k l = false_from_ne_true (get_or d k 0 == 10) (none k (omega arith) l)
+
+pub over_found : (bytes : List ℕ) (from n : ℕ) → from ≤ length bytes → IsFirstByte (is_byte 10) (take (length bytes - from) (drop from bytes)) (Some n) → GoesOn bytes from (from + n)
+over_found bytes from n l first =
+    let found : IsFirstByte (is_byte 10) (drop from bytes) (Some n) = subst (λ (d : List ℕ). IsFirstByte (is_byte 10) d (Some n)) (rest_is bytes from) first in
+    let size : length (drop from bytes) ≡ length bytes - from = length-drop from bytes in
+    let high : n < length (drop from bytes) = found.0.high in
+    goes_over bytes from n (omega arith) (no_feed (drop from bytes) n found.0.before)
+
+pub over_all : (bytes : List ℕ) (from : ℕ) → from ≤ length bytes → IsFirstByte (is_byte 10) (take (length bytes - from) (drop from bytes)) None → GoesOn bytes from (length bytes)
+over_all bytes from l first =
+    let none : IsFirstByte (is_byte 10) (drop from bytes) None = subst (λ (d : List ℕ). IsFirstByte (is_byte 10) d None) (rest_is bytes from) first in
+    let size : length (drop from bytes) ≡ length bytes - from = length-drop from bytes in
+    let same : from + length (drop from bytes) ≡ length bytes = omega arith in
+    subst (GoesOn bytes from) same (goes_over bytes from (length (drop from bytes)) (omega arith) (no_feed (drop from bytes) (length (drop from bytes)) none))
 
 pub line_at : (bytes : List ℕ) (at : ℕ) (o : Option ℕ) → TellsLine (take (length bytes - at) (drop at bytes)) o → TellsLine (drop at bytes) o
 line_at bytes at o t = subst (λ (d : List ℕ). TellsLine d o) (rest_is bytes at) t

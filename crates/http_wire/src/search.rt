@@ -1,6 +1,8 @@
 //! The search for the end of a head.
 ghost use Rattle.std.specs.Prelude.{◌≤◌, length};
-ghost use Rattle.http_wire.specs.Search.{Tracks, Finds, FindsEnd, TellsLine, TellsEnd};
+ghost use Rattle.http_wire.specs.Search.{Tracks, Finds, FindsEnd, GoesOn, TellsLine, TellsEnd};
+
+use memchr::memchr;
 
 /// How far a search has come.
 #[derive(Clone, Copy)]
@@ -88,16 +90,28 @@ fn search_head(bytes: &[u8], start: usize, from: usize) -> Search
     }
 }
 
+// where the first line feed from `from` on stands, or the end where there is none
+fn next_feed(bytes: &[u8], from: usize) -> usize
+    requires { from ≤ length bytes.now }
+    ensures onward { from ≤ result }
+    ensures goes_on { GoesOn bytes.now from result }
+{
+    match memchr(b'\n', &bytes[from..]) {
+        Some(n) => from + n,
+        None => bytes.len(),
+    }
+}
+
 /// Looks for the first line feed from `from` on that is followed by an empty line.
 pub(crate) fn find_end(bytes: &[u8], from: usize) -> End
     requires { from ≤ length bytes.now }
     ensures { FindsEnd bytes.now from result }
 {
-    let mut at = from;
+    let mut at = next_feed(bytes, from);
     'ends: loop {
         match end_at(&bytes[at..]) {
             None => return End::Missing(at),
-            Some(0) => at += 1,
+            Some(0) => at = next_feed(bytes, at + 1),
             Some(n) => return End::At(at + n),
         }
     }
