@@ -11,6 +11,8 @@ use Rattle.auth_grammar.specs.Names.{same_name}
 use Rattle.http_wire.specs.Lines.{line_feeds}
 use Rattle.http_wire.specs.RequestHead.{read_head}
 use Rattle.http_wire.specs.Fields.{Pairs, fields_of, values_of}
+use Rattle.http_wire.specs.declared.request_checks.TheConstants.{BODY_LIMIT}
+use Rattle.http_wire.specs.declared.front.TheConstants.{LINE_LIMIT}
 
 -- more than one Host, or none with HTTP/1.1
 abbrev pub is_wrong_host : ℕ → List (List ℕ) → Bool
@@ -41,7 +43,7 @@ fault_of minor n =
     if is_wrong_host minor n.hosts then Some 400
     else if not (is_empty n.codings) then Some 411
     else if not (are_lengths n.lengths) then Some 400
-    else if not (nat_le (first_number n.lengths) 1048576) then Some 413
+    else if not (nat_le (first_number n.lengths) BODY_LIMIT) then Some 413
     else if not (list_all (λ value. same_name value (codes "100-continue")) n.expects) then Some 417
     else None
 
@@ -78,4 +80,4 @@ judge_head (Some h) = judge_named h (fields_of (map name_and_value h.fields))
 
 -- the text of a head, checked in order
 unfoldable pub judge : List ℕ → Judged
-judge text = if nat_lt 66 (line_feeds text) then Faulty 431 else judge_head (read_head text)
+judge text = if nat_lt LINE_LIMIT (line_feeds text) then Faulty 431 else judge_head (read_head text)

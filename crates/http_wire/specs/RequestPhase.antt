@@ -7,17 +7,18 @@ use Rattle.http_wire.specs.HeadPlace.{head_place}
 use Rattle.http_wire.specs.RequestChecks.{judge}
 use Rattle.http_wire.specs.Search.{Tracks}
 use Rattle.http_wire.specs.Requests.{Unfinished, Wrong, front}
+use Rattle.http_wire.specs.declared.front.TheConstants.{HEAD_LIMIT}
 
 -- ---- what a feed knows of its bytes
 
 abbrev pub IsPhase : List ℕ → Phase → Type 0
-IsPhase bytes (Searching place) = Tracks (take 16384 bytes) place
-IsPhase bytes (Body head start end) = (head_place (take 16384 bytes) ≡ Some (start, end)) × (judge (slice_range bytes start end) ≡ Sound head)
+IsPhase bytes (Searching place) = Tracks (take HEAD_LIMIT bytes) place
+IsPhase bytes (Body head start end) = (head_place (take HEAD_LIMIT bytes) ≡ Some (start, end)) × (judge (slice_range bytes start end) ≡ Sound head)
 IsPhase bytes (Stopped status) = front bytes ≡ Wrong status
 
 -- the same, and it has looked at them all
 abbrev pub IsSettled : List ℕ → Phase → Type 0
-IsSettled bytes (Searching place) = Tracks (take 16384 bytes) place × (front bytes ≡ Unfinished false)
+IsSettled bytes (Searching place) = Tracks (take HEAD_LIMIT bytes) place × (front bytes ≡ Unfinished false)
 IsSettled bytes (Body head start end) = IsPhase bytes (Body head start end)
 IsSettled bytes (Stopped status) = front bytes ≡ Wrong status
 

@@ -5,6 +5,7 @@ use Rattle.http_wire.specs.declared.request_head.Judged.{Judged}
 use Rattle.http_wire.specs.declared.request_head.Judged.TheVariants.{Sound, Faulty}
 use Rattle.http_wire.specs.RequestChecks.{judge}
 use Rattle.http_wire.specs.HeadPlace.{head_place, blank_len}
+use Rattle.http_wire.specs.declared.front.TheConstants.{HEAD_LIMIT}
 
 -- what stands at the front
 pub data Front : Type 0 where
@@ -26,12 +27,12 @@ front_behind (Sound head) bytes =
     else Whole head.expects (with_body head.request (take head.body_len bytes)) (drop head.body_len bytes)
 
 abbrev pub front_at : Option (ℕ × ℕ) → List ℕ → Front
-front_at None bytes = if nat_lt (length bytes) 16384 then Unfinished false else Wrong 431
+front_at None bytes = if nat_lt (length bytes) HEAD_LIMIT then Unfinished false else Wrong 431
 front_at (Some place) bytes = front_behind (judge (slice_range bytes place.0 place.1)) (drop place.1 bytes)
 
 -- The first 16,384 bytes have the head's end.
 unfoldable pub front : List ℕ → Front
-front bytes = front_at (head_place (take 16384 bytes)) bytes
+front bytes = front_at (head_place (take HEAD_LIMIT bytes)) bytes
 
 -- whether a Continue is due
 abbrev pub is_due : Front → Bool

@@ -11,6 +11,8 @@ use Rattle.http_wire.specs.Lines.{line_feeds}
 use Rattle.http_wire.specs.Fields.{Pairs, fields_of, values_of}
 use Rattle.http_wire.specs.Values.{is_empty, are_lengths, first_number}
 use Rattle.http_wire.specs.ResponseHead.{read_response_head}
+use Rattle.http_wire.specs.declared.response_checks.TheConstants.{RESPONSE_LIMIT}
+use Rattle.http_wire.specs.declared.front.TheConstants.{LINE_LIMIT}
 
 -- a Transfer-Encoding that isn't `chunked` alone
 abbrev pub is_other_coding : List (List ℕ) → Bool
@@ -20,7 +22,7 @@ is_other_coding (value ∷ next ∷ values) = true
 
 -- a body of that many bytes, where it isn't above the limit
 abbrev pub sized : ℕ → Framing
-sized n = if nat_le n 16777216 then Sized n else TooLong
+sized n = if nat_le n RESPONSE_LIMIT then Sized n else TooLong
 
 -- the first rule that applies
 abbrev pub framing_of : Bool → ℕ → Pairs → Framing
@@ -48,4 +50,4 @@ judge_response_head to_head (Some h) = judge_response_named to_head h (fields_of
 
 -- the text of a head, which may answer a request of the method HEAD
 unfoldable pub judge_response : Bool → List ℕ → JudgedResponse
-judge_response to_head text = if nat_lt 66 (line_feeds text) then Faulty else judge_response_head to_head (read_response_head text)
+judge_response to_head text = if nat_lt LINE_LIMIT (line_feeds text) then Faulty else judge_response_head to_head (read_response_head text)

@@ -13,19 +13,20 @@ use Rattle.http_wire.specs.Search.{GoesOn}
 use Rattle.http_wire.specs.ChunkLine.{GoesOnLine}
 use Rattle.http_wire.specs.Responses.{ResponseFront, Incomplete, Open, Complete, Broken, trailers_len}
 use Rattle.http_wire.specs.ResponseFeed.{HeldResponse, place_of, ahead, is_over, Follows, StartsAgain}
+use Rattle.http_wire.specs.declared.front.TheConstants.{HEAD_LIMIT}
 
 -- ---- what it knows of its bytes
 
 abbrev pub IsPart : List ℕ → Part → Type 0
 IsPart rest (Known left) = ⊤
 IsPart rest ToEnd = ⊤
-IsPart rest (SizeLine from part) = GoesOnLine (take 16384 rest) from part
+IsPart rest (SizeLine from part) = GoesOnLine (take HEAD_LIMIT rest) from part
 IsPart rest (Data left line_at) = 0 < left
 IsPart rest (DataEnd line_at) = ⊤
-IsPart rest (Trailers from) = GoesOn (take 16384 rest) 0 from
+IsPart rest (Trailers from) = GoesOn (take HEAD_LIMIT rest) 0 from
 
 abbrev pub IsStage : List ℕ → Stage → Type 0
-IsStage rest (Head from) = GoesOn (take 16384 rest) 0 from
+IsStage rest (Head from) = GoesOn (take HEAD_LIMIT rest) 0 from
 IsStage rest (Body response at part) = IsPart rest part
 IsStage rest (Stopped at) = ⊤
 
@@ -67,9 +68,9 @@ Runs front old new NoMemory = (is_over old ≡ false) × Follows front old new
 -- it waits in a stage, or tells a fault once 16,384 bytes are there
 abbrev pub WaitsOrStops : HeldResponse → HeldResponse → Stage → ℕ → Step → Type 0
 WaitsOrStops old new stage at On = ⊥
-WaitsOrStops old new stage at Wait = (length old.rest < 16384) × (new ≡ record old { stage = stage })
+WaitsOrStops old new stage at Wait = (length old.rest < HEAD_LIMIT) × (new ≡ record old { stage = stage })
 WaitsOrStops old new stage at (Done response) = ⊥
-WaitsOrStops old new stage at (Fault place) = (16384 ≤ length old.rest) × (place ≡ at) × (new ≡ record old { stage = Stopped at })
+WaitsOrStops old new stage at (Fault place) = (HEAD_LIMIT ≤ length old.rest) × (place ≡ at) × (new ≡ record old { stage = Stopped at })
 WaitsOrStops old new stage at NoMemory = ⊥
 
 -- what a search for the end of the trailers finds in the first bytes

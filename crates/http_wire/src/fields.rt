@@ -7,6 +7,7 @@ ghost use Rattle.http_header.specs.FieldName.{is_field_name};
 ghost use Rattle.http_header.specs.Token.{lowercase};
 ghost use Rattle.http_wire.specs.Fields.{pairs_size, fields_of, values_of};
 ghost use Rattle.http_wire.specs.Values.{AreValues, has_token};
+ghost use Rattle.http_wire.specs.declared.front.TheConstants.{HEAD_LIMIT};
 
 use crate::pair::{Pair, PairList};
 use crate::values::{Values, has_part};
@@ -29,12 +30,13 @@ impl Model for Fields {
     ghost use Rattle.std.specs.Prelude.{List, ℕ, ◌≤◌};
     ghost use Rattle.http_header.specs.HeaderMap.{pairs};
     ghost use Rattle.http_wire.specs.Fields.{pairs_size};
+    ghost use Rattle.http_wire.specs.declared.front.TheConstants.{HEAD_LIMIT};
 
     ghost Value = { List (List ℕ × List ℕ) };
 
     ghost view = { λ f. pairs f.map };
 
-    ghost invariant = { λ f. pairs_size (pairs f.map) ≤ 16384 };
+    ghost invariant = { λ f. pairs_size (pairs f.map) ≤ HEAD_LIMIT };
 }
 
 impl Fields {
@@ -50,7 +52,7 @@ impl Fields {
     /// The one field of this name, in lower case, with this value.
     pub fn one(alloc: Global, name: &[u8], value: Octets) -> Result<Fields, OutOfMemory>
         requires name { is_field_name name.now ≡ true }
-        requires size { length name.now + length value < 16384 }
+        requires size { length name.now + length value < HEAD_LIMIT }
         ensures { IfOk result (λ fields. fields ≡ (lowercase name.now, value) ∷ []) }
     {
         let mut map = HeaderMap::<Octets>::empty(alloc);
@@ -70,7 +72,7 @@ impl Fields {
         headers: &[HeaderSpan],
     ) -> Result<Option<Fields>, OutOfMemory>
         requires within { All (IsHeaderWithin (length text.now)) headers.now }
-        requires short { pairs_size (map (header_bytes text.now) headers.now) ≤ 16384 }
+        requires short { pairs_size (map (header_bytes text.now) headers.now) ≤ HEAD_LIMIT }
         ensures { IfOk result (λ fields. fields ≡ fields_of (map (header_bytes text.now) headers.now)) }
     {
         let mut map = HeaderMap::<Octets>::empty(alloc);
@@ -93,7 +95,7 @@ impl Fields {
     pub fn len(&self) -> usize
         ensures len { result ≡ length self.now }
         // All names and values, with one byte more for each pair, are no longer than a head may be.
-        ensures size { pairs_size self.now ≤ 16384 }
+        ensures size { pairs_size self.now ≤ HEAD_LIMIT }
     {
         self.map.iter().count()
     }
@@ -116,7 +118,7 @@ impl Fields {
     /// All pairs.
     pub fn pairs(&self, alloc: Global) -> Result<PairList, OutOfMemory>
         ensures pairs { IfOk result (λ pairs. map (λ p. (p.name, p.value)) pairs ≡ self.now) }
-        ensures size { pairs_size self.now ≤ 16384 }
+        ensures size { pairs_size self.now ≤ HEAD_LIMIT }
     {
         let mut pairs = Sequence::new(alloc);
         for (name, value) in self.map.iter() {

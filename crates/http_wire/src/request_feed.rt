@@ -4,6 +4,7 @@ ghost use Rattle.http_wire.specs.Search.{Tracks};
 ghost use Rattle.http_wire.specs.RequestPhase.{IsPhase, IsSettled, is_stopped};
 ghost use Rattle.http_wire.specs.RequestFeed.{Gives, pushed};
 ghost use Rattle.http_wire.specs.Requests.{with_body, begun_at};
+ghost use Rattle.http_wire.specs.declared.front.TheConstants.{HEAD_LIMIT};
 
 use crate::front::{HEAD_LIMIT, behind, front_of, window};
 use crate::phase::Phase;
@@ -42,7 +43,7 @@ impl Model for RequestFeed {
 
 // looks at the bytes that came, from a place on
 fn look(alloc: Global, bytes: &[u8], place: Place) -> Result<Phase, OutOfMemory>
-    requires { Tracks (take 16384 bytes.now) place }
+    requires { Tracks (take HEAD_LIMIT bytes.now) place }
     ensures { IfOk result (λ phase. IsSettled bytes.now phase) }
 {
     let first = window(bytes);

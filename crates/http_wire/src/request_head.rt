@@ -4,8 +4,10 @@ ghost use Rattle.http_wire.specs.Lines.{line_feeds};
 ghost use Rattle.http_wire.specs.RequestChecks.{judge};
 ghost use Rattle.http_wire.specs.ParsedRequest.{FindsHead};
 ghost use Rattle.http_wire.specs.HeadPlace.{empty_line};
+ghost use Rattle.http_wire.specs.declared.front.TheConstants.{FIELD_LIMIT, HEAD_LIMIT, LINE_LIMIT};
 
 use crate::fields::Fields;
+use crate::front::{FIELD_LIMIT, LINE_LIMIT};
 use crate::request::Request;
 use crate::request_checks::check_fields;
 use auth_grammar::{Octets, OutOfMemory};
@@ -38,9 +40,9 @@ pub(crate) fn count_lines(text: &[u8]) -> usize
 
 // the spans of the head that the text is, if it is one
 fn parse(text: &[u8], headers: &mut [HeaderSpan]) -> Option<RequestSpans>
-    requires room { length headers.old ≡ 64 }
+    requires room { length headers.old ≡ FIELD_LIMIT }
     requires no_blank { empty_line text.now ≡ 0 }
-    requires few { line_feeds text.now ≤ 66 }
+    requires few { line_feeds text.now ≤ LINE_LIMIT }
     ensures { FindsHead text.now headers.new result }
 {
     match parse_request(text, headers) {
@@ -59,13 +61,13 @@ fn parse(text: &[u8], headers: &mut [HeaderSpan]) -> Option<RequestSpans>
 /// Checks the text of a head.
 pub(crate) fn judge_text(alloc: Global, text: &[u8]) -> Result<Judged, OutOfMemory>
     requires no_blank { empty_line text.now ≡ 0 }
-    requires short { length text.now ≤ 16384 }
+    requires short { length text.now ≤ HEAD_LIMIT }
     ensures { IfOk result (λ judged. judged ≡ judge text.now) }
 {
-    if count_lines(text) > 66 {
+    if count_lines(text) > LINE_LIMIT {
         return Ok(Judged::Faulty(431));
     }
-    let mut headers = [EMPTY_HEADER_SPAN; 64];
+    let mut headers = [EMPTY_HEADER_SPAN; FIELD_LIMIT];
     let Some(head) = parse(text, &mut headers) else {
         return Ok(Judged::Faulty(400));
     };

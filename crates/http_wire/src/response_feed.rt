@@ -7,6 +7,7 @@ ghost use Rattle.http_wire.specs.ResponseChecks.{judge_response};
 ghost use Rattle.http_wire.specs.Responses.{response_front, body_front, sized_body, open_body, chunks, behind_line, chunk_data, chunk_end, trailers};
 ghost use Rattle.http_wire.specs.ResponseFeed.{part_front, stage_front, place_of, ahead, Holds, is_over, GivesResponse, EndsResponse};
 ghost use Rattle.http_wire.specs.ResponseSteps.{IsPart, IsStage, Waits, WaitsOrStops, FindsTrailers, has_crlf, Steps, Runs};
+ghost use Rattle.http_wire.specs.declared.front.TheConstants.{HEAD_LIMIT};
 
 use crate::chunk_line::{LinePart, LineSearch, chunk_size, find_line};
 use crate::front::{HEAD_LIMIT, front_of, window};
@@ -295,7 +296,7 @@ impl ResponseFeed {
 
     // a head that doesn't end before `from`
     fn read_head(&mut self, from: usize) -> Step
-        requires search { GoesOn (take 16384 self.old.rest) 0 from }
+        requires search { GoesOn (take HEAD_LIMIT self.old.rest) 0 from }
         requires goes { is_over self.old ≡ false }
         ensures { Steps (λ more. response_front self.old.to_head (place_of self.old) (self.old.rest ++ more)) self.old self.new result }
     {
@@ -312,7 +313,7 @@ impl ResponseFeed {
 
     // a head of that many bytes
     fn pass_head(&mut self, judged: JudgedResponse, end: usize) -> Step
-        requires head { head_len (take 16384 self.old.rest) ≡ Some end }
+        requires head { head_len (take HEAD_LIMIT self.old.rest) ≡ Some end }
         requires judged { judged ≡ judge_response self.old.to_head (take end self.old.rest) }
         requires goes { is_over self.old ≡ false }
         ensures { Steps (λ more. response_front self.old.to_head (place_of self.old) (self.old.rest ++ more)) self.old self.new result }
@@ -375,7 +376,7 @@ impl ResponseFeed {
     }
 
     fn read_size_line(&mut self, response: Response, at: u64, from: usize, part: LinePart) -> Step
-        requires line { GoesOnLine (take 16384 self.old.rest) from part }
+        requires line { GoesOnLine (take HEAD_LIMIT self.old.rest) from part }
         requires goes { is_over self.old ≡ false }
         ensures { Steps (λ more. chunks response at (place_of self.old) (self.old.rest ++ more)) self.old self.new result }
     {
@@ -432,7 +433,7 @@ impl ResponseFeed {
     }
 
     fn read_trailers(&mut self, response: Response, at: u64, from: usize) -> Step
-        requires search { GoesOn (take 16384 self.old.rest) 0 from }
+        requires search { GoesOn (take HEAD_LIMIT self.old.rest) 0 from }
         requires goes { is_over self.old ≡ false }
         ensures { Steps (λ more. trailers response at (self.old.rest ++ more)) self.old self.new result }
     {

@@ -4,8 +4,10 @@ ghost use Rattle.http_wire.specs.Lines.{line_feeds};
 ghost use Rattle.http_wire.specs.HeadPlace.{head_len};
 ghost use Rattle.http_wire.specs.ResponseChecks.{judge_response};
 ghost use Rattle.http_wire.specs.ParsedResponse.{FindsResponseHead};
+ghost use Rattle.http_wire.specs.declared.front.TheConstants.{FIELD_LIMIT, HEAD_LIMIT, LINE_LIMIT};
 
 use crate::fields::Fields;
+use crate::front::{FIELD_LIMIT, LINE_LIMIT};
 use crate::request_head::count_lines;
 use crate::response_checks::{JudgedResponse, check_response};
 use auth_grammar::OutOfMemory;
@@ -15,9 +17,9 @@ use std::alloc::Global;
 
 // the spans of the head that the text is, if it is one
 fn parse(text: &[u8], headers: &mut [HeaderSpan]) -> Option<ResponseSpans>
-    requires room { length headers.old ≡ 64 }
+    requires room { length headers.old ≡ FIELD_LIMIT }
     requires whole { head_len text.now ≡ Some (length text.now) }
-    requires few { line_feeds text.now ≤ 66 }
+    requires few { line_feeds text.now ≤ LINE_LIMIT }
     ensures { FindsResponseHead text.now headers.new result }
 {
     match parse_response(text, headers) {
@@ -40,13 +42,13 @@ pub(crate) fn judge_response_text(
     text: &[u8],
 ) -> Result<JudgedResponse, OutOfMemory>
     requires whole { head_len text.now ≡ Some (length text.now) }
-    requires short { length text.now ≤ 16384 }
+    requires short { length text.now ≤ HEAD_LIMIT }
     ensures { IfOk result (λ judged. judged ≡ judge_response to_head text.now) }
 {
-    if count_lines(text) > 66 {
+    if count_lines(text) > LINE_LIMIT {
         return Ok(JudgedResponse::Faulty);
     }
-    let mut headers = [EMPTY_HEADER_SPAN; 64];
+    let mut headers = [EMPTY_HEADER_SPAN; FIELD_LIMIT];
     let Some(head) = parse(text, &mut headers) else {
         return Ok(JudgedResponse::Faulty);
     };

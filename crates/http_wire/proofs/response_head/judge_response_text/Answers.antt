@@ -6,8 +6,8 @@ use Rattle.http_wire.proofs.FieldSizeLemmas.{size_response}
 use Rattle.http_wire.proofs.ResponseJudgingLemmas.{response_many, response_unread, response_read}
 use Rattle.http_wire.proofs.response_head.judge_response_text.Goals as goal
 
-pub returns-then-count_lines-gt66 : goal.returns-then-count_lines-gt66
-returns-then-count_lines-gt66 c = response_many c.args.to_head c.args.text.now c.count_lines.result c.count_lines.ensures c.if-count_lines-gt66.true
+pub returns-then-count_lines-gt-LINE_LIMIT : goal.returns-then-count_lines-gt-LINE_LIMIT
+returns-then-count_lines-gt-LINE_LIMIT c = response_many c.args.to_head c.args.text.now c.count_lines.result c.count_lines.ensures c.if-count_lines-gt-LINE_LIMIT.true
 
 pub returns-in_default : goal.returns-in_default
 returns-in_default c = let few : line_feeds c.args.text.now ≤ 66 = omega arith in response_unread c.args.to_head c.args.text.now few c.in_default.ensures
