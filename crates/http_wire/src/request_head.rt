@@ -13,6 +13,7 @@ use crate::request_checks::check_fields;
 use auth_grammar::{Octets, OutOfMemory};
 use httparse::Status;
 use httparse::spans::{EMPTY_HEADER_SPAN, HeaderSpan, RequestSpans, parse_request};
+use memchr::memchr_iter;
 use std::alloc::Global;
 
 /// A head without a fault, and what it says of the body.
@@ -35,7 +36,7 @@ pub(crate) enum Judged {
 pub(crate) fn count_lines(text: &[u8]) -> usize
     ensures { result ≡ line_feeds text.now }
 {
-    text.iter().filter(|b| **b == 10).count()
+    memchr_iter(b'\n', text).count()
 }
 
 // the spans of the head that the text is, if it is one
