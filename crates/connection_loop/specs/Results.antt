@@ -14,6 +14,7 @@ use Rattle.connection_loop.specs.declared.served.End.TheVariants.{Ended, CloseAs
 use Rattle.connection_loop.specs.declared.served.Served.{Served}
 use Rattle.connection_loop.specs.declared.served.ServeError.{ServeError}
 use Rattle.connection_loop.specs.declared.served.ServeError.TheVariants.{Truncated, ReadFault, WriteFault, RandomFault, Worn, OutOfMemory}
+use Rattle.connection_loop.specs.declared.serving.TheConstants.{REQUEST_LIMIT}
 
 -- ---- an account against a session
 
@@ -33,7 +34,7 @@ pub record Begins {S Q E : Type 0} (s : Session S Q E) (m : Machine S Q E) (a : 
 
 -- the session over what was read
 abbrev pub read_session : {S Q E : Type 0} → Machine S Q E → S → Account E → Session S Q E
-read_session m before a = session m 4096 before a.input (supply_of a)
+read_session m before a = session m REQUEST_LIMIT before a.input (supply_of a)
 
 -- all that the link had to give, where it told so, and else what was read
 abbrev pub whole_input : {E : Type 0} → Option (List ℕ) → Account E → List ℕ
@@ -42,7 +43,7 @@ whole_input (Some input) a = input
 
 -- the session over all of it
 abbrev pub whole_session : {S Q E : Type 0} → Machine S Q E → S → Option (List ℕ) → Account E → Session S Q E
-whole_session m before left a = session m 4096 before (whole_input left a) (supply_of a)
+whole_session m before left a = session m REQUEST_LIMIT before (whole_input left a) (supply_of a)
 
 -- ---- replies before reads
 
@@ -58,7 +59,7 @@ IsOpen (Lacking ask) = ⊥
 
 -- the session over the bytes that had been read before a read
 abbrev pub session_before : {S Q E : Type 0} → Machine S Q E → S → Account E → ℕ × ℕ → Supply E → Session S Q E
-session_before m before a r more = session m 4096 before (take r.0 a.input) (add (supply_of a) more)
+session_before m before a r more = session m REQUEST_LIMIT before (take r.0 a.input) (add (supply_of a) more)
 
 -- before this read all was written that the bytes before it call for, and no message in them ended the session
 pub record IsPrompt {S Q E : Type 0} (m : Machine S Q E) (before : S) (a : Account E) (r : ℕ × ℕ) : Type 0 where

@@ -23,6 +23,7 @@ use Rattle.connection_loop.specs.declared.reading.Arrived.{Arrived}
 use Rattle.connection_loop.specs.declared.reading.Arrived.TheVariants.{Message, Bad, NoMore}
 use Rattle.connection_loop.specs.declared.serving.Step.{Step}
 use Rattle.connection_loop.specs.declared.serving.Step.TheVariants.{More, Over}
+use Rattle.connection_loop.specs.declared.serving.TheConstants.{REQUEST_LIMIT}
 
 -- ---- writing
 
@@ -146,7 +147,7 @@ pub record Place (S : Type 0) : Type 0 where
 
 -- a place after some requests
 abbrev pub place_at : {S : Type 0} → S → Held → ℕ → ℕ → Place S
-place_at state held requests admitted = record { room = 4096 - requests; state = state; ahead = held.rest; requests = requests; admitted = admitted; answered = held.at }
+place_at state held requests admitted = record { room = REQUEST_LIMIT - requests; state = state; ahead = held.rest; requests = requests; admitted = admitted; answered = held.at }
 
 -- the session from a place on, over what was taken since, where these bytes follow
 abbrev pub session_from : {S Q E : Type 0} → Machine S Q E → Place S → Account E → List ℕ → Session S Q E
@@ -219,7 +220,7 @@ AdmitsOne (Err e) = ⊤
 
 -- what comes after a request was answered
 abbrev pub step_after : Bool → ℕ → ℕ → ℕ → Step
-step_after closing one requests admitted = if closing && nat_lt (requests + 1) 4096 then Over (record { requests = requests + 1; admitted = admitted + one; end = CloseAsked }) else More one
+step_after closing one requests admitted = if closing && nat_lt (requests + 1) REQUEST_LIMIT then Over (record { requests = requests + 1; admitted = admitted + one; end = CloseAsked }) else More one
 
 -- reads while a message was awaited were prompt, from a place on
 abbrev pub session_at : {S Q E : Type 0} → Machine S Q E → Place S → Account E → ℕ × ℕ → Supply E → Session S Q E

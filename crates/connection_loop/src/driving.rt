@@ -5,6 +5,7 @@ ghost use Rattle.http_wire.specs.Requests.{Cuts};
 ghost use Rattle.auth_io.specs.Causes.{Rose};
 ghost use Rattle.connection_loop.specs.Account.{link_of};
 ghost use Rattle.connection_loop.specs.Results.{ServesSession, OnlyLastCloses, EndsWell, EndsAtLimit};
+ghost use Rattle.connection_loop.specs.declared.serving.TheConstants.{REQUEST_LIMIT};
 
 use crate::reading::PIECE_BYTES;
 use crate::responder::Responder;
@@ -31,8 +32,8 @@ pub fn drive<L: Link, C: Clock, R: Responder>(
         (C.shown clock.old) (C.shown clock.new) (R.state responder.old) (R.state responder.new) result }
 
     // An input of whole requests is served to its end, or to the request that closes.
-    ensures complete { (input : List ℕ) (requests : List Request) → L.left link.old ≡ Some input → Cuts input requests [] → length requests < 4096 → EndsWell result }
-    ensures full { (input : List ℕ) (requests : List Request) → L.left link.old ≡ Some input → Cuts input requests [] → length requests ≡ 4096 → OnlyLastCloses requests → EndsAtLimit result }
+    ensures complete { (input : List ℕ) (requests : List Request) → L.left link.old ≡ Some input → Cuts input requests [] → length requests < REQUEST_LIMIT → EndsWell result }
+    ensures full { (input : List ℕ) (requests : List Request) → L.left link.old ≡ Some input → Cuts input requests [] → length requests ≡ REQUEST_LIMIT → OnlyLastCloses requests → EndsAtLimit result }
 
     // No fault is answered without its cause, and no count of faults falls.
     ensures read_fault { result ≡ Err ServeError.ReadFault → Rose (L.read_faults link.old) (L.read_faults link.new) }
