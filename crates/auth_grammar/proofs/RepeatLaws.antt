@@ -11,6 +11,7 @@ use Rattle.auth_grammar.specs.declared.error.GrammarError.TheVariants.{NotGramma
 use Rattle.auth_grammar.specs.declared.groups.Group.{Group}
 use Rattle.auth_grammar.specs.Repeats.{IsRepeat, IsSecond, AreSingle, RefusesList, RefusesLists, HaveSingleNames, lists_in, params_in}
 use Rattle.std.proofs.Common.{Result, Ok, Err, IfErr, ◌+◌, ◌<◌, suc, length, take, drop, get_or, ◌≡◌, ℕ, Bool, true, false, not, cond, ◌||◌, List, [], ◌∷◌, ◌++◌, refl, ap, sym, ◌∙◌, subst, map}
+use Rattle.std.specs.List.{list_any}
 use Rattle.std.specs.BTreeSet.{BTreeSet, IsEmpty, Updates, contains}
 use Rattle.std.specs.Cmp.Lexicographic.{slice_cmp}
 use Rattle.std.specs.Ordering.{nat_cmp}
@@ -20,6 +21,15 @@ use Rattle.std.proofs.lemmas.Map.Text.{is_eq-slice_cmp}
 use Rattle.std.proofs.lemmas.List.Folds.{list_any-append}
 use Rattle.auth_grammar.specs.declared.items.Param.{Param}
 use Rattle.auth_grammar.specs.Names.{lower, same_name, has_name, has_repeat, params_of}
+
+has_name_placed : (name : List ℕ) (params : List Placed) → list_any (λ (p : Placed). same_name p.param.name name) params ≡ has_name name (unplaced params)
+has_name_placed name [] = refl
+has_name_placed name (p ∷ params) = ap (λ (b : Bool). same_name p.param.name name || b) (has_name_placed name params)
+
+-- what a search among the parameters before one tells of its name
+pub searched : (params : List Placed) (i : ℕ) (n m : List ℕ) (found b : Bool) → found ≡ list_any (λ (p : Placed). same_name p.param.name n) (take i params) → n ≡ m → found ≡ b → has_name m (unplaced (take i params)) ≡ b
+searched params i n m found b h e t =
+    sym (has_name_placed m (take i params)) ∙ ap (λ (x : List ℕ). list_any (λ (p : Placed). same_name p.param.name x) (take i params)) (sym e) ∙ sym h ∙ t
 
 -- the set has the lower-case names of the parameters
 pub record AreNames (names : BTreeSet (List ℕ)) (params : List Param) : Type 0 where

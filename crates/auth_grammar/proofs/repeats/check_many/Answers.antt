@@ -1,7 +1,7 @@
 use Rattle.std.proofs.Common.{false, true, refl, sym, ◌∙◌, take}
 use Rattle.auth_grammar.specs.Items.{unplaced}
 use Rattle.auth_grammar.proofs.RepeatLaws.{single_next, names_next, repeats_at, told, updated}
-use Rattle.auth_grammar.proofs.repeats.check_list.Goals as goal
+use Rattle.auth_grammar.proofs.repeats.check_many.Goals as goal
 
 pub returns-then-not-branch-clause-refused : goal.returns-then-not-branch-clause-refused
 returns-then-not-branch-clause-refused c = (
