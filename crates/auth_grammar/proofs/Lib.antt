@@ -1,9 +1,11 @@
+pub mod KindTable
 pub mod Stripping
 pub mod Moves
 pub mod FormReadings
 pub mod ElementLists
 pub mod StateLaws
 pub mod CollectingLaws
+pub mod RunLaws
 pub mod ReaderSteps
 pub mod RepeatLaws
 pub mod Joins

@@ -1,4 +1,5 @@
 use Rattle.std.proofs.Common.{◌≡◌, ℕ, Bool, true, false, List, [], ◌∷◌, ◌++◌, Option, Some, None, Err, refl, ap, sym, ◌∙◌, append_assoc, subst, IsTrue, ◌<◌, ◌+◌, length, take, get_or, arith}
+use Rattle.std.proofs.lemmas.Grind.{take_at_read}
 use Rattle.std.proofs.lemmas.List.{length-append}
 use Rattle.std.proofs.Math.Seq.{take-length, take-append-add}
 use Rattle.auth_grammar.specs.Kinds.{kind_of}
@@ -32,7 +33,7 @@ use Rattle.auth_grammar.specs.Collecting.{is_open, with_param, pushed, rules, be
 use Rattle.auth_grammar.specs.Walks.{is_many, made_at, walker_of, walker_after, Stands, Leads, Walked}
 use Rattle.auth_grammar.proofs.StateLaws.{follows_begun, follows_on, follows_end, follows_dead, follows_begins, follows_only, some_is, ending_from}
 use Rattle.auth_grammar.proofs.CollectingLaws.{laws, spelled_to, spelled_from}
-use Rattle.auth_grammar.proofs.ReaderSteps.{dead_stops, one_read}
+use Rattle.auth_grammar.proofs.ReaderSteps.{dead_stops}
 
 pub stands_begun : (k : Grammar) → Stands k (walker_of k) []
 stands_begun k = go k
@@ -189,7 +190,7 @@ module _ (k : Grammar) where
 
   -- one byte more of a piece
   piece_read : (fed piece : List ℕ) (i : ℕ) → i < length piece → (fed ++ take i piece) ++ get_or piece i 0 ∷ [] ≡ fed ++ take (i + 1) piece
-  piece_read fed piece i l = append_assoc fed (take i piece) (get_or piece i 0 ∷ []) ∙ ap (λ (x : List ℕ). fed ++ x) (one_read k piece i l)
+  piece_read fed piece i l = append_assoc fed (take i piece) (get_or piece i 0 ∷ []) ∙ ap (λ (x : List ℕ). fed ++ x) (sym (take_at_read piece i 0 l).1)
 
   pub walked_on : (v : Walker) (fed piece : List ℕ) (i : ℕ) → i < length piece → Stands k v ((fed ++ take i piece) ++ get_or piece i 0 ∷ []) → Stands k v (fed ++ take (i + 1) piece)
   walked_on v fed piece i l s = subst (λ (x : List ℕ). Stands k v x) (piece_read fed piece i l) s

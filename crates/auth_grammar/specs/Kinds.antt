@@ -25,6 +25,11 @@ kind_of b =
     if is_mark_byte b then Mark else
     if nat_lt b 32 || b == 127 then Control else Quotable
 
+-- stands in a token and in a token68
+abbrev pub is_plain : Kind → Bool
+is_plain Plain = true
+is_plain _ = false
+
 -- stands in a token (RFC 9110 section 5.6.2)
 abbrev pub is_token : Kind → Bool
 is_token Plain = true

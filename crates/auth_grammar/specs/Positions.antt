@@ -1,6 +1,6 @@
 -- A position stands for the one or two readings that are left of an element. Here is what it means that the table of turns is right.
-use Rattle.std.specs.Prelude.{◌≡◌, ℕ, Bool, ◌⊎◌, List, [], ◌∷◌, ◌++◌, Option, Some, None, IsSome, unwrap_or}
-use Rattle.auth_grammar.specs.Kinds.{kind_of}
+use Rattle.std.specs.Prelude.{◌≡◌, ℕ, Bool, false, drop, ◌⊎◌, List, [], ◌∷◌, ◌++◌, Option, Some, None, IsSome, unwrap_or}
+use Rattle.auth_grammar.specs.Kinds.{kind_of, is_plain, is_quotable, is_token, is_token68}
 use Rattle.auth_grammar.specs.Grammar.{Spot}
 use Rattle.auth_grammar.specs.declared.elements.Element.{Element}
 use Rattle.auth_grammar.specs.declared.elements.Element.TheVariants.{Blank, Scheme, SchemeToken68}
@@ -84,6 +84,45 @@ kept_after Keep.LateWord w b = record w { word = (w.word ++ 61 ∷ []) ++ b.byte
 kept_after Keep.OpenValue w b = record w { value = [] }
 kept_after Keep.FirstValue w b = record w { value = b.byte ∷ [] }
 kept_after Keep.Value w b = record w { value = w.value ++ b.byte ∷ [] }
+
+-- the kinds of bytes behind which the word goes on at the same position
+abbrev pub word_stays : Position → Kind → Bool
+word_stays At.Word k = is_token k
+word_stays At.Scheme k = is_token k
+word_stays At.Second k = is_plain k
+word_stays At.Token68 k = is_token68 k
+word_stays At.Name k = is_token k
+word_stays _ k = false
+
+-- the same of the value
+abbrev pub value_stays : Position → Kind → Bool
+value_stays At.Value k = is_plain k
+value_stays At.Token k = is_token k
+value_stays At.Loose k = is_token68 k
+value_stays At.Quoted k = is_quotable k
+value_stays _ k = false
+
+-- the kinds of bytes that go where the byte before them went, by that effect at that position
+abbrev pub stays : Effect → Position → Kind → Bool
+stays Keep.Nothing p k = false
+stays Keep.FirstWord p k = word_stays p k
+stays Keep.NextWord p k = word_stays p k
+stays Keep.Word p k = word_stays p k
+stays Keep.LateWord p k = word_stays p k
+stays Keep.OpenValue p k = value_stays p k
+stays Keep.FirstValue p k = value_stays p k
+stays Keep.Value p k = value_stays p k
+
+-- what is kept of a byte at a place and of those that go where it went
+abbrev pub kept_run : Effect → Kept → ℕ → List ℕ → Kept
+kept_run Keep.Nothing w at run = w
+kept_run Keep.FirstWord w at run = record { scheme = None; word = run; at = at; value = w.value }
+kept_run Keep.NextWord w at run = record { scheme = Some w.word; word = run; at = at; value = w.value }
+kept_run Keep.Word w at run = record w { word = w.word ++ run }
+kept_run Keep.LateWord w at run = record w { word = (w.word ++ 61 ∷ []) ++ run }
+kept_run Keep.OpenValue w at run = record w { value = drop 1 run }
+kept_run Keep.FirstValue w at run = record w { value = run }
+kept_run Keep.Value w at run = record w { value = w.value ++ run }
 
 -- the readings after a turn, before which the element has not ended
 abbrev pub readings_after : Bool → Bool → Turn → Kept → Spot → List Reading

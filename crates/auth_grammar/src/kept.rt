@@ -1,6 +1,6 @@
 //! What is kept of an element that has begun.
-ghost use Rattle.std.specs.Prelude.{◌≡◌, [], OnOk};
-ghost use Rattle.auth_grammar.specs.Positions.{kept_after};
+ghost use Rattle.std.specs.Prelude.{◌≡◌, ◌≤◌, [], OnOk, length};
+ghost use Rattle.auth_grammar.specs.Positions.{kept_run};
 
 use crate::octets::{Octets, OutOfMemory};
 use crate::position::Effect;
@@ -32,40 +32,36 @@ impl Kept {
         }
     }
 
-    /// Keeps of a byte what the effect says.
-    pub fn keep(&mut self, alloc: Global, effect: Effect, at: u32, b: u8) -> Result<(), OutOfMemory>
-        ensures { OnOk result (self.new ≡ kept_after effect self.old (record { at = at; byte = b })) }
+    /// Keeps what the effect says of a byte at a place and of those that go where it went.
+    pub fn keep(
+        &mut self,
+        alloc: Global,
+        effect: Effect,
+        at: u32,
+        run: &[u8],
+    ) -> Result<(), OutOfMemory>
+        requires { 1 ≤ length run.now }
+        ensures { OnOk result (self.new ≡ kept_run effect self.old at run.now) }
     {
         match effect {
             Effect::FirstWord => {
                 self.scheme = None;
-                self.word = Octets::new(alloc);
+                self.word = Octets::of(alloc, run)?;
                 self.at = at;
-                self.word.push(b)?;
             }
             Effect::NextWord => {
-                let scheme = mem::replace(&mut self.word, Octets::new(alloc));
-                self.scheme = Some(scheme);
+                let word = Octets::of(alloc, run)?;
+                self.scheme = Some(mem::replace(&mut self.word, word));
                 self.at = at;
-                self.word.push(b)?;
             }
-            Effect::Word => {
-                self.word.push(b)?;
-            }
+            Effect::Word => self.word.extend(run)?,
             Effect::LateWord => {
                 self.word.push(b'=')?;
-                self.word.push(b)?;
+                self.word.extend(run)?;
             }
-            Effect::OpenValue => {
-                self.value = Octets::new(alloc);
-            }
-            Effect::FirstValue => {
-                self.value = Octets::new(alloc);
-                self.value.push(b)?;
-            }
-            Effect::Value => {
-                self.value.push(b)?;
-            }
+            Effect::OpenValue => self.value = Octets::of(alloc, &run[1..])?,
+            Effect::FirstValue => self.value = Octets::of(alloc, run)?,
+            Effect::Value => self.value.extend(run)?,
             Effect::Nothing => {}
         }
         Ok(())

@@ -1,6 +1,9 @@
 //! The kinds of bytes that the grammar tells apart.
-ghost use Rattle.std.specs.Prelude.{◌≡◌};
-ghost use Rattle.auth_grammar.specs.Kinds.{is_escapable, is_mark_byte, is_plain_byte, is_token, is_token68, kind_of};
+ghost use Rattle.std.specs.Prelude.{◌≡◌, get_or};
+ghost use Rattle.auth_grammar.specs.declared.kinds.Kind.TheVariants.{Comma};
+ghost use Rattle.auth_grammar.specs.Kinds.{is_escapable, is_plain, is_quotable, is_token, is_token68, kind_of};
+
+use Kind::{Backslash, Comma, Control, Equals, Mark, Plain, Quotable, Quote, Slash, Space, Tab};
 
 /// What a byte can be in the grammar.
 #[derive(Clone, Copy, Debug, PartialEq, Eq)]
@@ -31,6 +34,13 @@ impl Kind {
         matches!(self, Kind::Plain | Kind::Mark)
     }
 
+    /// Whether it stands in a token and in a token68.
+    pub fn is_plain(self) -> bool
+        ensures { result ≡ is_plain self }
+    {
+        matches!(self, Kind::Plain)
+    }
+
     /// Whether it stands in a token68 before its `=`.
     pub fn is_token68(self) -> bool
         ensures { result ≡ is_token68 self }
@@ -44,57 +54,54 @@ impl Kind {
     {
         !matches!(self, Kind::Control)
     }
-}
 
-/// The kind of a byte.
-#[tactic(auto, unfolding(crate::specs::Kinds::kind_of))]
-pub fn kind_at(b: u8) -> Kind
-    ensures { result ≡ kind_of b }
-{
-    if b == b',' {
-        Kind::Comma
-    } else if b == b' ' {
-        Kind::Space
-    } else if b == b'\t' {
-        Kind::Tab
-    } else if b == b'=' {
-        Kind::Equals
-    } else if b == b'"' {
-        Kind::Quote
-    } else if b == b'\\' {
-        Kind::Backslash
-    } else if b == b'/' {
-        Kind::Slash
-    } else if is_plain(b) {
-        Kind::Plain
-    } else if is_mark(b) {
-        Kind::Mark
-    } else if b < b' ' || b == 127 {
-        Kind::Control
-    } else {
-        Kind::Quotable
+    /// Whether it stands for itself in a quoted string.
+    pub fn is_quotable(self) -> bool
+        ensures { result ≡ is_quotable self }
+    {
+        !matches!(self, Kind::Control | Kind::Quote | Kind::Backslash)
     }
 }
 
-#[tactic(auto, unfolding(crate::specs::Kinds::is_plain_byte))]
-fn is_plain(b: u8) -> bool
-    ensures { result ≡ is_plain_byte b }
+/// The kind of each byte.
+static KINDS: [Kind; 256] = [
+    Control, Control, Control, Control, Control, Control, Control, Control, Control, Tab, Control,
+    Control, Control, Control, Control, Control, Control, Control, Control, Control, Control,
+    Control, Control, Control, Control, Control, Control, Control, Control, Control, Control,
+    Control, Space, Mark, Quote, Mark, Mark, Mark, Mark, Mark, Quotable, Quotable, Mark, Plain,
+    Comma, Plain, Plain, Slash, Plain, Plain, Plain, Plain, Plain, Plain, Plain, Plain, Plain,
+    Plain, Quotable, Quotable, Quotable, Equals, Quotable, Quotable, Quotable, Plain, Plain, Plain,
+    Plain, Plain, Plain, Plain, Plain, Plain, Plain, Plain, Plain, Plain, Plain, Plain, Plain,
+    Plain, Plain, Plain, Plain, Plain, Plain, Plain, Plain, Plain, Plain, Quotable, Backslash,
+    Quotable, Mark, Plain, Mark, Plain, Plain, Plain, Plain, Plain, Plain, Plain, Plain, Plain,
+    Plain, Plain, Plain, Plain, Plain, Plain, Plain, Plain, Plain, Plain, Plain, Plain, Plain,
+    Plain, Plain, Plain, Plain, Quotable, Mark, Quotable, Plain, Control, Quotable, Quotable,
+    Quotable, Quotable, Quotable, Quotable, Quotable, Quotable, Quotable, Quotable, Quotable,
+    Quotable, Quotable, Quotable, Quotable, Quotable, Quotable, Quotable, Quotable, Quotable,
+    Quotable, Quotable, Quotable, Quotable, Quotable, Quotable, Quotable, Quotable, Quotable,
+    Quotable, Quotable, Quotable, Quotable, Quotable, Quotable, Quotable, Quotable, Quotable,
+    Quotable, Quotable, Quotable, Quotable, Quotable, Quotable, Quotable, Quotable, Quotable,
+    Quotable, Quotable, Quotable, Quotable, Quotable, Quotable, Quotable, Quotable, Quotable,
+    Quotable, Quotable, Quotable, Quotable, Quotable, Quotable, Quotable, Quotable, Quotable,
+    Quotable, Quotable, Quotable, Quotable, Quotable, Quotable, Quotable, Quotable, Quotable,
+    Quotable, Quotable, Quotable, Quotable, Quotable, Quotable, Quotable, Quotable, Quotable,
+    Quotable, Quotable, Quotable, Quotable, Quotable, Quotable, Quotable, Quotable, Quotable,
+    Quotable, Quotable, Quotable, Quotable, Quotable, Quotable, Quotable, Quotable, Quotable,
+    Quotable, Quotable, Quotable, Quotable, Quotable, Quotable, Quotable, Quotable, Quotable,
+    Quotable, Quotable, Quotable, Quotable, Quotable, Quotable, Quotable, Quotable, Quotable,
+    Quotable, Quotable, Quotable, Quotable, Quotable, Quotable, Quotable, Quotable, Quotable,
+];
+
+/// The kind of a byte.
+pub fn kind_at(b: u8) -> Kind
+    ensures { result ≡ kind_of b }
 {
-    b.is_ascii_alphanumeric() || b == b'-' || b == b'.' || b == b'_' || b == b'~' || b == b'+'
+    kind_in(&KINDS, b)
 }
 
-#[tactic(auto, unfolding(crate::specs::Kinds::is_mark_byte))]
-fn is_mark(b: u8) -> bool
-    ensures { result ≡ is_mark_byte b }
+/// What a table of kinds says of a byte.
+fn kind_in(kinds: &[Kind; 256], b: u8) -> Kind
+    ensures { result ≡ get_or kinds.now b Comma }
 {
-    b == b'!'
-        || b == b'#'
-        || b == b'$'
-        || b == b'%'
-        || b == b'&'
-        || b == b'\''
-        || b == b'*'
-        || b == b'^'
-        || b == b'`'
-        || b == b'|'
+    kinds[b as usize]
 }

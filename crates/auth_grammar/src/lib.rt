@@ -21,6 +21,7 @@ mod read;
 mod reader;
 mod repeats;
 mod round_trip;
+mod runs;
 mod sequence;
 #[cfg(test)]
 mod tests;

@@ -1,5 +1,5 @@
-//! Reading a text byte by byte.
-ghost use Rattle.std.specs.Prelude.{◌≡◌, ◌<◌, ◌^◌, IfErr, IfOk, IsSome, OnOk, length};
+//! Reading a text from its first byte on.
+ghost use Rattle.std.specs.Prelude.{◌≡◌, ◌≤◌, IfErr, IfOk, IsSome, OnOk, length};
 ghost use Rattle.auth_grammar.specs.Answers.{Refuses};
 ghost use Rattle.auth_grammar.specs.Collecting.{begun_of};
 ghost use Rattle.auth_grammar.specs.Items.{SpellsOnly};
@@ -15,6 +15,7 @@ use crate::kept::Kept;
 use crate::kinds::kind_at;
 use crate::octets::OutOfMemory;
 use crate::position::{Position, Turn};
+use crate::runs::run_len;
 use crate::turns::turn_at;
 use std::alloc::Global;
 use std::mem;
@@ -54,33 +55,44 @@ impl Reader {
         Ok(())
     }
 
-    /// Does what a turn says of its byte. Ok(false) says that no text goes on so.
-    fn take_turn(&mut self, alloc: Global, turn: Turn, at: u32, b: u8) -> Result<bool, OutOfMemory>
-        requires { turn ≡ Turn.End → IsSome (ending self.old.position self.old.kept) }
-        ensures { IfOk result (λ goes. Does turn self.old (record { at = at; byte = b }) goes self.new) }
+    /// Does what a turn says of the first byte that is left, and of those that go where it went. Answers how many they
+    /// are, or 0 where no text goes on so.
+    fn take_turn(
+        &mut self,
+        alloc: Global,
+        turn: Turn,
+        at: u32,
+        rest: &[u8],
+    ) -> Result<usize, OutOfMemory>
+        requires some { 1 ≤ length rest.now }
+        requires ends { turn ≡ Turn.End → IsSome (ending self.old.position self.old.kept) }
+        ensures { IfOk result (λ count. Does turn self.old at rest.now count self.new) }
     {
         match turn {
-            Turn::Dead => Ok(false),
+            Turn::Dead => Ok(0),
             Turn::End => {
                 self.end(alloc)?;
-                Ok(true)
+                Ok(1)
             }
             Turn::Go(position, effect) => {
-                self.kept.keep(alloc, effect, at, b)?;
+                let count = 1 + run_len(effect, position, &rest[1..]);
+                self.kept.keep(alloc, effect, at, &rest[..count])?;
                 self.position = position;
-                Ok(true)
+                Ok(count)
             }
         }
     }
 
-    /// Reads one byte, which stands at a place. Ok(false) says that no text goes on so.
-    pub fn step(&mut self, alloc: Global, at: u32, b: u8) -> Result<bool, OutOfMemory>
-        ensures { IfOk result (λ goes. Steps self.old (record { at = at; byte = b }) goes self.new) }
+    /// Reads the first byte that is left, which stands at a place, and those that go where it went. Answers how many they
+    /// are, or 0 where no text goes on so.
+    pub fn step(&mut self, alloc: Global, at: u32, rest: &[u8]) -> Result<usize, OutOfMemory>
+        requires { 1 ≤ length rest.now }
+        ensures { IfOk result (λ count. Steps self.old at rest.now count self.new) }
     {
         let params = self.collected.takes_param();
         let schemes = self.collected.takes_scheme();
-        let turn = turn_at(self.position, kind_at(b), params, schemes);
-        self.take_turn(alloc, turn, at, b)
+        let turn = turn_at(self.position, kind_at(rest[0]), params, schemes);
+        self.take_turn(alloc, turn, at, rest)
     }
 
     /// What the text spells, which ends at a place.
@@ -109,12 +121,13 @@ pub fn read(alloc: Global, grammar: Grammar, text: &[u8]) -> Result<Grouped, Gra
         return Err(GrammarError::OutOfMemory);
     }
     let mut reader = Reader::new(alloc, grammar);
-    let mut at: u32 = 0;
-    for b in text {
-        if !reader.step(alloc, at, *b)? {
-            return Err(GrammarError::NotGrammar { at });
+    let mut at = 0;
+    while at < text.len() {
+        let count = reader.step(alloc, at as u32, &text[at..])?;
+        if count == 0 {
+            return Err(GrammarError::NotGrammar { at: at as u32 });
         }
-        at += 1;
+        at += count;
     }
-    reader.finish(alloc, at)
+    reader.finish(alloc, at as u32)
 }

@@ -7,6 +7,7 @@ ghost use Rattle.auth_grammar.specs.Valid.{are_valid_params, is_quotable_text, i
 use crate::items::{Item, ItemList, Param, ParamList, Rest};
 use crate::kinds::kind_at;
 use crate::names::has_repeat;
+use crate::runs::token68_len;
 
 impl Item {
     /// Whether it can be written: its scheme and names are tokens, a token68 is one, parameters are
@@ -78,16 +79,6 @@ pub fn is_token68(text: &[u8]) -> bool
 {
     let body = token68_len(text);
     0 < body && all_equals(&text[body..])
-}
-
-/// How many bytes of a token68 stand before its `=`.
-fn token68_len(text: &[u8]) -> usize
-    ensures len { result ≡ token68_len text.now }
-    ensures bound { result ≤ length text.now }
-{
-    text.iter()
-        .take_while(|b| kind_at(**b).is_token68())
-        .count()
 }
 
 fn all_equals(text: &[u8]) -> bool

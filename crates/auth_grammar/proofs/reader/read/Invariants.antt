@@ -1,9 +1,12 @@
-use Rattle.std.proofs.Common.{◌≡◌, take}
+use Rattle.std.proofs.Common.{◌≤◌, ◌-◌, length, take}
 use Rattle.auth_grammar.proofs.ReaderSteps.{HasRead}
 use Rattle.auth_grammar.proofs.reader.read.Given as goal
 
-abbrev pub invariant-loop-b : goal.invariant-loop-b
-invariant-loop-b l = record {
-  at : l.at ≡ l.b-index;
-  read : HasRead l.fn.grammar l.reader (take l.b-index l.text);
+abbrev pub invariant-loop-at : goal.invariant-loop-at
+invariant-loop-at l = record {
+  within : l.at ≤ length l.text;
+  read : HasRead l.fn.grammar l.reader (take l.at l.text);
 }
+
+abbrev pub decreases-loop-at : goal.decreases-loop-at
+decreases-loop-at l = length l.text - l.at
