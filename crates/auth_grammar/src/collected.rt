@@ -1,5 +1,5 @@
 //! What a reader has collected of a text's elements.
-ghost use Rattle.std.specs.Prelude.{◌≡◌, IfOk, option_map};
+ghost use Rattle.std.specs.Prelude.{◌≡◌, IfOk, OnOk, option_map};
 ghost use Rattle.auth_grammar.specs.Collecting.{add_element, begun, begun_of, finished, is_open, pushed, takes_param, takes_scheme, with_param};
 
 use crate::elements::Element;
@@ -8,6 +8,7 @@ use crate::groups::{Group, Grouped, Placed};
 use crate::octets::OutOfMemory;
 use crate::sequence::Sequence;
 use std::alloc::Global;
+use std::mem;
 
 /// What a reader has collected. A last item is apart while parameters may come behind it.
 #[derive(Drop)]
@@ -28,27 +29,24 @@ impl Group {
         matches!(self, Group::WithParams(_, _))
     }
 
-    /// The item with one parameter more, if it takes one.
-    fn with_param(self, placed: Placed) -> Result<Group, OutOfMemory>
-        ensures { IfOk result (λ group. group ≡ with_param placed self) }
+    /// Adds a parameter to the item, if it takes one.
+    fn add_param(&mut self, placed: Placed) -> Result<(), OutOfMemory>
+        ensures { OnOk result (self.new ≡ with_param placed self.old) }
     {
         match self {
-            Group::WithParams(scheme, mut params) => {
-                params.push(placed)?;
-                Ok(Group::WithParams(scheme, params))
-            }
-            Group::WithToken68(scheme, token68) => Ok(Group::WithToken68(scheme, token68)),
+            Group::WithParams(_, params) => params.push(placed),
+            Group::WithToken68(_, _) => Ok(()),
         }
     }
 }
 
-/// The last item with one parameter more, if it is there and takes one.
-fn with_last_param(last: Option<Group>, placed: Placed) -> Result<Option<Group>, OutOfMemory>
-    ensures { IfOk result (λ next. next ≡ option_map (with_param placed) last) }
+/// Adds a parameter to the last item, if it is there and takes one.
+fn add_last_param(last: &mut Option<Group>, placed: Placed) -> Result<(), OutOfMemory>
+    ensures { OnOk result (last.new ≡ option_map (with_param placed) last.old) }
 {
     match last {
-        Some(group) => Ok(Some(group.with_param(placed)?)),
-        None => Ok(None),
+        Some(group) => group.add_param(placed),
+        None => Ok(()),
     }
 }
 
@@ -82,13 +80,15 @@ impl Collected {
         matches!(self, Collected::Many(_, _) | Collected::One(None))
     }
 
-    /// With one element more, which may come next.
-    pub fn add(self, alloc: Global, element: Element) -> Result<Collected, OutOfMemory>
-        ensures { IfOk result (λ next. next ≡ add_element self element) }
+    /// Adds an element, which may come next.
+    pub fn add(&mut self, alloc: Global, element: Element) -> Result<(), OutOfMemory>
+        ensures { OnOk result (self.new ≡ add_element self.old element) }
     {
         match element {
-            Element::Blank => Ok(self),
-            Element::Scheme(scheme) => self.begin(Group::WithParams(scheme, Sequence::new(alloc))),
+            Element::Blank => Ok(()),
+            Element::Scheme(scheme) => {
+                self.begin(Group::WithParams(scheme, Sequence::new(alloc)))
+            }
             Element::SchemeToken68(scheme, token68) => {
                 self.begin(Group::WithToken68(scheme, token68))
             }
@@ -101,8 +101,17 @@ impl Collected {
         }
     }
 
+    /// Begins an item.
+    fn begin(&mut self, group: Group) -> Result<(), OutOfMemory>
+        ensures { OnOk result (self.new ≡ begun self.old group) }
+    {
+        let collected = mem::replace(self, Collected::One(None));
+        *self = collected.begun(group)?;
+        Ok(())
+    }
+
     /// With one item more.
-    fn begin(self, group: Group) -> Result<Collected, OutOfMemory>
+    fn begun(self, group: Group) -> Result<Collected, OutOfMemory>
         ensures { IfOk result (λ next. next ≡ begun self group) }
     {
         match self {
@@ -117,19 +126,14 @@ impl Collected {
         }
     }
 
-    /// With one parameter more.
-    fn push(self, placed: Placed) -> Result<Collected, OutOfMemory>
-        ensures { IfOk result (λ next. next ≡ pushed self placed) }
+    /// Adds a parameter.
+    fn push(&mut self, placed: Placed) -> Result<(), OutOfMemory>
+        ensures { OnOk result (self.new ≡ pushed self.old placed) }
     {
         match self {
-            Collected::Bare(mut params) => {
-                params.push(placed)?;
-                Ok(Collected::Bare(params))
-            }
-            Collected::Many(groups, last) => {
-                Ok(Collected::Many(groups, with_last_param(last, placed)?))
-            }
-            Collected::One(last) => Ok(Collected::One(with_last_param(last, placed)?)),
+            Collected::Bare(params) => params.push(placed),
+            Collected::Many(_, last) => add_last_param(last, placed),
+            Collected::One(last) => add_last_param(last, placed),
         }
     }
 

@@ -49,8 +49,7 @@ impl Reader {
     {
         let kept = mem::replace(&mut self.kept, Kept::new(alloc));
         let element = ended(alloc, kept, self.position)?;
-        let collected = mem::replace(&mut self.collected, Collected::One(None));
-        self.collected = collected.add(alloc, element)?;
+        self.collected.add(alloc, element)?;
         self.position = Position::Start;
         Ok(())
     }
