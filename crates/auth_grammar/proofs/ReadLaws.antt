@@ -1,7 +1,9 @@
 use Rattle.std.proofs.Common.{IsTrue, ◌≡◌, ℕ, false, true, List, [], ◌∷◌, ◌++◌, Ok, refl, ap, sym, ◌∙◌, subst, map}
 use Rattle.std.specs.List.{list_all}
+use Rattle.std.proofs.lemmas.List.{map-append}
 use Rattle.std.proofs.lemmas.List.Elements.{All-head}
 use Rattle.auth_grammar.specs.declared.grammar.Grammar.TheVariants.{Challenges, Credentials, Params}
+use Rattle.auth_grammar.specs.declared.groups.Group.{Group}
 use Rattle.auth_grammar.specs.declared.groups.Grouped.{Grouped}
 use Rattle.auth_grammar.specs.declared.items.Item.{Item}
 use Rattle.auth_grammar.specs.declared.items.Param.{Param}
@@ -41,9 +43,9 @@ last_of_one [] item first h = sym h
 last_of_one (a ∷ []) item first h = absurd (cc (h))
 last_of_one (a ∷ b ∷ before) item first h = absurd (cc (h))
 
--- credentials that a text spells alone
-pub answers_credentials : (text : List ℕ) (x : Grouped) (items before : List Item) (item : Item) → SpellsOnly Credentials text x → AreSingle (lists_in x) → items ≡ map item_of x.groups → items ≡ before ++ item ∷ [] → AnswersCredentials text (Ok item)
-answers_credentials text x items before item s a e h =
+-- the same of the last of their items
+answers_last : (text : List ℕ) (x : Grouped) (items before : List Item) (item : Item) → SpellsOnly Credentials text x → AreSingle (lists_in x) → items ≡ map item_of x.groups → items ≡ before ++ item ∷ [] → AnswersCredentials text (Ok item)
+answers_last text x items before item s a e h =
     let i = s.0.3 in
     let first : map item_of x.groups ≡ item_of i.1 ∷ [] = ap (map item_of) i.2 in
     let one : map item_of x.groups ≡ item ∷ [] = first ∙ last_of_one before item (item_of i.1) (sym h ∙ e ∙ first) in
@@ -57,3 +59,9 @@ answers_credentials text x items before item s a e h =
   where
     same : (other : Item) → other ∷ [] ≡ item ∷ [] → other ≡ item
     same other k = cc
+
+-- credentials that a text spells alone, of the last item as it is spelled
+pub answers_credentials : (text : List ℕ) (x : Grouped) (before : List Group) (group : Group) (item : Item) → SpellsOnly Credentials text x → AreSingle (lists_in x) → x.groups ≡ before ++ group ∷ [] → item ≡ item_of group → AnswersCredentials text (Ok item)
+answers_credentials text x before group item s a h i =
+    answers_last text x (map item_of x.groups) (map item_of before) item s a refl
+    (ap (map item_of) h ∙ map-append item_of before (group ∷ []) ∙ ap (λ (y : Item). map item_of before ++ y ∷ []) (sym i))

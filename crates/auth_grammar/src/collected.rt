@@ -1,5 +1,5 @@
 //! What a reader has collected of a text's elements.
-ghost use Rattle.std.specs.Prelude.{◌≡◌, IfOk, OnOk, option_map};
+ghost use Rattle.std.specs.Prelude.{◌≡◌, [], IfOk, OnOk, option_map};
 ghost use Rattle.auth_grammar.specs.Collecting.{add_element, begun, begun_of, finished, is_open, pushed, takes_param, takes_scheme, with_param};
 
 use crate::elements::Element;
@@ -9,6 +9,9 @@ use crate::octets::OutOfMemory;
 use crate::sequence::Sequence;
 use std::alloc::Global;
 use std::mem;
+
+/// How many parameters credentials of Digest have at most, but for unknown ones (RFC 7616 section 3.4).
+const USUAL_PARAMS: usize = 12;
 
 /// What a reader has collected. A last item is apart while parameters may come behind it.
 #[derive(Drop)]
@@ -93,11 +96,21 @@ impl Collected {
                 self.begin(Group::WithToken68(scheme, token68))
             }
             Element::SchemeParam(scheme, at, param) => {
-                let mut params = Sequence::new(alloc);
+                let mut params = self.begun_params(alloc)?;
                 params.push(Placed { at, param })?;
                 self.begin(Group::WithParams(scheme, params))
             }
             Element::Further(at, param) => self.push(Placed { at, param }),
+        }
+    }
+
+    /// No parameters yet, with memory for those of usual credentials where no other item may come.
+    fn begun_params(&self, alloc: Global) -> Result<Sequence<Placed>, OutOfMemory>
+        ensures { IfOk result (λ params. params ≡ []) }
+    {
+        match self {
+            Collected::One(_) => Sequence::with_capacity(alloc, USUAL_PARAMS),
+            _ => Ok(Sequence::new(alloc)),
         }
     }
 

@@ -55,7 +55,7 @@ pub fn unplaced(alloc: Global, placed: Sequence<Placed>) -> Result<ParamList, Ou
 }
 
 /// The item without the places of its names.
-fn unplaced_item(alloc: Global, group: Group) -> Result<Item, OutOfMemory>
+pub fn unplaced_item(alloc: Global, group: Group) -> Result<Item, OutOfMemory>
     ensures { IfOk result (λ item. item ≡ item_of group) }
 {
     match group {

@@ -7,7 +7,7 @@ ghost use Rattle.auth_grammar.specs.Repeats.{AreSingle, lists_in};
 
 use crate::error::GrammarError;
 use crate::grammar::Grammar;
-use crate::groups::{Grouped, unplaced, unplaced_items};
+use crate::groups::{Grouped, unplaced, unplaced_item, unplaced_items};
 use crate::items::{Item, ItemList, OctetsList, ParamList};
 use crate::octets::{Octets, OutOfMemory};
 use crate::reader::read;
@@ -40,10 +40,9 @@ pub fn read_credentials(alloc: Global, text: &[u8]) -> Result<Item, GrammarError
     ensures { AnswersCredentials text.now result }
 {
     let x = read_single(alloc, Grammar::Credentials, text)?;
-    let Grouped { groups, .. } = x;
-    let mut items = unplaced_items(alloc, groups)?;
-    match items.pop() {
-        Some(item) => Ok(item),
+    let Grouped { mut groups, .. } = x;
+    match groups.pop() {
+        Some(group) => Ok(unplaced_item(alloc, group)?),
         None => unreachable!(),
     }
 }

@@ -29,6 +29,15 @@ impl<T: Drop> Sequence<T> {
         }
     }
 
+    /// The empty list, with memory for so many items.
+    pub fn with_capacity(alloc: Global, capacity: usize) -> Result<Sequence<T>, OutOfMemory>
+        ensures { IfOk result (λ s. s ≡ []) }
+    {
+        Ok(Sequence {
+            items: Vec::with_capacity(alloc, capacity)?,
+        })
+    }
+
     /// The vector's items, with no copy.
     pub fn from_vec(items: Vec<T>) -> Sequence<T>
         ensures { result ≡ items.items }
