@@ -1,9 +1,9 @@
 //! Reading a text from its first byte on.
 ghost use Rattle.std.specs.Prelude.{◌≡◌, ◌≤◌, IfErr, IfOk, IsSome, OnOk, length};
 ghost use Rattle.auth_grammar.specs.Answers.{Refuses};
-ghost use Rattle.auth_grammar.specs.Collecting.{begun_of};
+ghost use Rattle.auth_grammar.specs.Collecting.{begun_of, takes_param, takes_scheme};
 ghost use Rattle.auth_grammar.specs.Items.{SpellsOnly};
-ghost use Rattle.auth_grammar.specs.Positions.{ending};
+ghost use Rattle.auth_grammar.specs.Positions.{Turns, ending};
 ghost use Rattle.auth_grammar.specs.Steps.{Does, Finishes, Steps, with_ended};
 
 use crate::collected::Collected;
@@ -12,11 +12,11 @@ use crate::error::GrammarError;
 use crate::grammar::Grammar;
 use crate::groups::Grouped;
 use crate::kept::Kept;
-use crate::kinds::kind_at;
+use crate::kinds::{Kind, kind_at};
 use crate::octets::OutOfMemory;
 use crate::position::{Position, Turn};
 use crate::runs::run_len;
-use crate::turns::turn_at;
+use crate::turns::{at_start, turn_behind};
 use std::alloc::Global;
 use std::mem;
 
@@ -54,6 +54,20 @@ impl Reader {
         Ok(())
     }
 
+    /// What a byte of this kind does next.
+    fn turn(&self, kind: Kind) -> Turn
+        ensures { Turns self.now.position kind (takes_param self.now.collected) (takes_scheme self.now.collected) result }
+    {
+        match self.position {
+            Position::Start => {
+                let params = self.collected.takes_param();
+                let schemes = self.collected.takes_scheme();
+                at_start(kind, params, schemes)
+            }
+            _ => turn_behind(self.position, kind),
+        }
+    }
+
     /// Does what a turn says of the first byte that is left, and of those that go where it went. Answers how many they
     /// are, or 0 where no text goes on so.
     fn take_turn(
@@ -88,9 +102,7 @@ impl Reader {
         requires { 1 ≤ length rest.now }
         ensures { IfOk result (λ count. Steps self.old at rest.now count self.new) }
     {
-        let params = self.collected.takes_param();
-        let schemes = self.collected.takes_scheme();
-        let turn = turn_at(self.position, kind_at(rest[0]), params, schemes);
+        let turn = self.turn(kind_at(rest[0]));
         self.take_turn(alloc, turn, at, rest)
     }
 

@@ -1,5 +1,5 @@
 //! What a byte does at each position: the grammar's table.
-ghost use Rattle.std.specs.Prelude.{Bool};
+ghost use Rattle.std.specs.Prelude.{◌≢◌, Bool};
 ghost use Rattle.auth_grammar.specs.Positions.{Turns};
 
 use crate::kinds::Kind;
@@ -11,6 +11,16 @@ pub fn turn_at(position: Position, kind: Kind, params: bool, schemes: bool) -> T
 {
     match position {
         Position::Start => at_start(kind, params, schemes),
+        _ => turn_behind(position, kind),
+    }
+}
+
+/// The same behind an element's first byte, whatever may begin.
+pub fn turn_behind(position: Position, kind: Kind) -> Turn
+    ensures { position ≢ Position.Start → (params schemes : Bool) → Turns position kind params schemes result }
+{
+    match position {
+        Position::Start => Turn::Dead,
         Position::Word => at_word(kind),
         Position::WordSpace => at_word_space(kind),
         Position::WordWhite => at_word_white(kind),
@@ -37,7 +47,8 @@ pub fn turn_at(position: Position, kind: Kind, params: bool, schemes: bool) -> T
     }
 }
 
-fn at_start(kind: Kind, params: bool, schemes: bool) -> Turn
+/// The same before an element.
+pub fn at_start(kind: Kind, params: bool, schemes: bool) -> Turn
     ensures { Turns Position.Start kind params schemes result }
 {
     match kind {
