@@ -21,6 +21,18 @@ enum State {
     Sha512t256(Sha512_256),
 }
 
+impl State {
+    fn copy(&self) -> State
+        ensures { result ≡ self.now }
+    {
+        match self {
+            State::Md5(hasher) => State::Md5(hasher.clone().unwrap()),
+            State::Sha256(hasher) => State::Sha256(hasher.clone().unwrap()),
+            State::Sha512t256(hasher) => State::Sha512t256(hasher.clone().unwrap()),
+        }
+    }
+}
+
 impl Hasher {
     /// A hasher of the empty message.
     pub fn new(algorithm: Algorithm) -> Hasher
@@ -45,6 +57,29 @@ impl Hasher {
         }
     }
 
+    /// A hasher that has taken the texts with a colon between each two.
+    pub fn of_joined(algorithm: Algorithm, texts: &[&[u8]]) -> Hasher
+        ensures { Holding result algorithm (joined (map (λ text. text.now) texts.now)) }
+    {
+        let mut hasher = Hasher::new(algorithm);
+        for (at, text) in texts.iter().enumerate() {
+            if at > 0 {
+                hasher.add(b":");
+            }
+            hasher.add(text);
+        }
+        hasher
+    }
+
+    /// The hasher again, of the same message so far.
+    pub fn copy(&self) -> Hasher
+        ensures { result ≡ self.now }
+    {
+        Hasher {
+            state: self.state.copy(),
+        }
+    }
+
     /// The digest of the message as text.
     pub fn finish(self) -> HexText
         ensures { (a : Algorithm) (m : List ℕ) → Holding self a m → result ≡ hash_text a m }
@@ -61,14 +96,7 @@ impl Hasher {
 pub fn hash_joined(algorithm: Algorithm, texts: &[&[u8]]) -> HexText
     ensures { result ≡ hash_text algorithm (joined (map (λ text. text.now) texts.now)) }
 {
-    let mut hasher = Hasher::new(algorithm);
-    for (at, text) in texts.iter().enumerate() {
-        if at > 0 {
-            hasher.add(b":");
-        }
-        hasher.add(text);
-    }
-    hasher.finish()
+    Hasher::of_joined(algorithm, texts).finish()
 }
 
 #[cfg(test)]
@@ -95,7 +123,9 @@ mod tests {
             pieces.add(b"a");
             pieces.add(b"");
             pieces.add(b"bc");
-            let text = pieces.finish();
+            let copy = pieces.copy();
+            pieces.add(b"d");
+            let text = copy.finish();
             assert_eq!(rt; text.bytes(), digest.as_bytes());
             assert_eq!(rt; HexText::read(digest.as_bytes()), Some(text));
             assert_eq!(rt; hash_joined(algorithm, &[b"abc"]), text);

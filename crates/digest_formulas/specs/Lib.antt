@@ -1,2 +1,3 @@
+pub mod ResponseHashes
 pub mod Responses
 pub mod Secrets

@@ -3,9 +3,11 @@
 //! No call takes memory.
 #![tactic(auto)]
 
+mod response_hash;
 mod responses;
 mod secrets;
 
+pub use response_hash::ResponseHash;
 pub use responses::{response, rspauth};
 pub use secrets::{ha1, session_ha1, user_hash};
 

@@ -1,7 +1,7 @@
 use Rattle.std.proofs.Common.{map, take}
 use Rattle.auth_hash.specs.Hash.{joined}
 use Rattle.auth_hash.specs.Hasher.{Holding}
-use Rattle.auth_hash.proofs.hasher.hash_joined.Given as goal
+use Rattle.auth_hash.proofs.hasher.Hasher.of_joined.Given as goal
 
 -- the hasher has taken the texts so far
 abbrev pub invariant-loop-at : goal.invariant-loop-at

@@ -1,8 +1,8 @@
 use Rattle.std.proofs.Common.{ℕ, List, Bor, subst}
 use Rattle.auth_hash.specs.Hasher.{Holding}
 use Rattle.auth_hash.proofs.Joins.{joined_next, joined_first}
-use Rattle.auth_hash.proofs.hasher.hash_joined.Goals as goal
-use Rattle.auth_hash.proofs.hasher.hash_joined.Goals.{then-at-gt0, else-at-gt0}
+use Rattle.auth_hash.proofs.hasher.Hasher.of_joined.Goals as goal
+use Rattle.auth_hash.proofs.hasher.Hasher.of_joined.Goals.{then-at-gt0, else-at-gt0}
 
 pub loop-at-preserved : goal.loop-at-preserved
 loop-at-preserved c =
