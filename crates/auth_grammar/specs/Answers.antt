@@ -20,7 +20,8 @@ use Rattle.auth_grammar.specs.Writing.{items_text, params_text}
 -- when a reader of that grammar answers each error; the cases exclude each other, but for want of memory
 abbrev pub Refuses : Grammar → List ℕ → GrammarError → Type 0
 Refuses grammar text (NotGrammar at) = Stops (Spells grammar) text at
-Refuses grammar text (Twice at name) = (x : Grouped) × (p : Placed) × SpellsOnly grammar text x × IsSecond (lists_in x) p × (p.at ≡ at) × (p.param.name ≡ name)
+Refuses grammar text (Twice at name) =
+    (x : Grouped) × (p : Placed) × SpellsOnly grammar text x × IsSecond (lists_in x) p × (p.at ≡ at) × (p.param.name ≡ name)
 Refuses grammar text OutOfMemory = Unit {0}
 
 -- the answer to a text of challenges

@@ -85,7 +85,8 @@ joined (Bare params) more [] = Some (record { params = params ++ more; groups = 
 joined (Bare params) more (g ∷ others) = None
 joined (Many groups None) [] others = Some (record { params = []; groups = groups ++ others })
 joined (Many groups None) (p ∷ more) others = None
-joined (Many groups (Some last)) more others = option_map (λ g. record { params = []; groups = groups ++ (g ∷ others) }) (completed last more)
+joined (Many groups (Some last)) more others =
+    option_map (λ g. record { params = []; groups = groups ++ (g ∷ others) }) (completed last more)
 joined (One None) [] [] = None
 joined (One None) [] (g ∷ []) = Some (record { params = []; groups = g ∷ [] })
 joined (One None) [] (g ∷ h ∷ others) = None

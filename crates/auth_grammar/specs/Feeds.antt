@@ -21,10 +21,12 @@ IsFed walker text (Some at) = Stops (Spells Challenges) text at × (at < length 
 -- a piece that comes while there is no fault
 abbrev pub Takes : Fed → List ℕ → Result (Unit {0}) GrammarError → Fed → Type 0
 Takes old piece (Ok _) new = (new ≡ record { text = old.text ++ piece; fault = None }) × Begins (Spells Challenges) new.text
-Takes old piece (Err (NotGrammar at)) new = (new ≡ record { text = old.text ++ piece; fault = Some at }) × Stops (Spells Challenges) new.text at × (at < length new.text)
+Takes old piece (Err (NotGrammar at)) new =
+    (new ≡ record { text = old.text ++ piece; fault = Some at }) × Stops (Spells Challenges) new.text at × (at < length new.text)
 Takes old piece (Err (Twice at name)) new = ⊥
 Takes old piece (Err OutOfMemory) new = new ≡ old
 
 -- after a fault each piece is answered with it, and the text with that piece has it too
 abbrev pub Repeats : Fed → List ℕ → Result (Unit {0}) GrammarError → Fed → Type 0
-Repeats old piece result new = (at : ℕ) → old.fault ≡ Some at → (result ≡ Err (NotGrammar at)) × (new ≡ old) × Stops (Spells Challenges) (old.text ++ piece) at
+Repeats old piece result new =
+    (at : ℕ) → old.fault ≡ Some at → (result ≡ Err (NotGrammar at)) × (new ≡ old) × Stops (Spells Challenges) (old.text ++ piece) at

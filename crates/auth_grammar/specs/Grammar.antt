@@ -49,14 +49,16 @@ abbrev pub Quotes : Text → List ℕ → Type 0
 Quotes text [] = text ≡ []
 Quotes text (v ∷ value) =
     ((b : Spot) × (rest : Text) × (text ≡ b ∷ rest) × (b.byte ≡ v) × IsTrue (is_quotable (kind_of v)) × Quotes rest value)
-    ⊎ ((c b : Spot) × (rest : Text) × (text ≡ c ∷ b ∷ rest) × (c.byte ≡ 92) × (b.byte ≡ v) × IsTrue (is_escapable (kind_of v)) × Quotes rest value)
+    ⊎ ((c b : Spot) × (rest : Text) × (text ≡ c ∷ b ∷ rest) × (c.byte ≡ 92) × (b.byte ≡ v)
+    × IsTrue (is_escapable (kind_of v)) × Quotes rest value)
 
 -- a value: a token, or what has the form of a token68, or a quoted string
 abbrev pub IsValue : Text → List ℕ → Type 0
 IsValue text value =
     (SomeOf is_token text × (bytes text ≡ value))
     ⊎ (IsToken68 text × (bytes text ≡ value))
-    ⊎ ((left right : Spot) × (inner : Text) × (text ≡ left ∷ inner ++ right ∷ []) × (left.byte ≡ 34) × (right.byte ≡ 34) × Quotes inner value)
+    ⊎ ((left right : Spot) × (inner : Text) × (text ≡ left ∷ inner ++ right ∷ []) × (left.byte ≡ 34) × (right.byte ≡ 34)
+    × Quotes inner value)
 
 -- a parameter: a name that stands at a place, `=` and a value, with white space round the `=`
 abbrev pub IsParam : Text → ℕ → Param → Type 0
@@ -68,7 +70,8 @@ IsParam text at p = (name before : Text) × (equals : Spot) × (after value : Te
 abbrev pub IsForm : Text → Element → Type 0
 IsForm text Blank = text ≡ []
 IsForm text (Scheme scheme) = (bytes text ≡ scheme) × SomeOf is_token text
-IsForm text (SchemeToken68 scheme token68) = (name spaces rest : Text) × (text ≡ name ++ spaces ++ rest) × (bytes name ≡ scheme) × (bytes rest ≡ token68)
+IsForm text (SchemeToken68 scheme token68) =
+    (name spaces rest : Text) × (text ≡ name ++ spaces ++ rest) × (bytes name ≡ scheme) × (bytes rest ≡ token68)
     × SomeOf is_token name × SomeOf is_space spaces × IsToken68 rest
 IsForm text (SchemeParam scheme at param) = (name spaces rest : Text) × (text ≡ name ++ spaces ++ rest) × (bytes name ≡ scheme)
     × SomeOf is_token name × SomeOf is_space spaces × IsParam rest at param
@@ -83,5 +86,6 @@ IsElement text element = (left form right : Text) × (text ≡ left ++ form ++ r
 abbrev pub Splits : Text → List Element → Type 0
 Splits text [] = ⊥
 Splits text (element ∷ []) = IsElement text element
-Splits text (element ∷ next ∷ elements) = (front : Text) × (comma : Spot) × (back : Text) × (text ≡ front ++ comma ∷ back) × (comma.byte ≡ 44)
+Splits text (element ∷ next ∷ elements) =
+    (front : Text) × (comma : Spot) × (back : Text) × (text ≡ front ++ comma ∷ back) × (comma.byte ≡ 44)
     × IsElement front element × Splits back (next ∷ elements)

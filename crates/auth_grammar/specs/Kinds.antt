@@ -5,7 +5,9 @@ use Rattle.auth_grammar.specs.declared.kinds.Kind.TheVariants.{Comma, Space, Tab
 
 -- letters, digits and -._~+
 unfoldable pub is_plain_byte : ℕ → Bool
-is_plain_byte b = ((nat_le 97 b && nat_le b 122) || (nat_le 65 b && nat_le b 90) || (nat_le 48 b && nat_le b 57)) || b == 45 || b == 46 || b == 95 || b == 126 || b == 43
+is_plain_byte b =
+    ((nat_le 97 b && nat_le b 122) || (nat_le 65 b && nat_le b 90) || (nat_le 48 b && nat_le b 57)) || b == 45 || b == 46
+    || b == 95 || b == 126 || b == 43
 
 -- !#$%&'*^`|
 unfoldable pub is_mark_byte : ℕ → Bool

@@ -111,7 +111,8 @@ SchemeRest e s = One is_space (SpaceRest e s) (TabRest e s)
 
 -- the bytes that are left make this element of what was read
 abbrev pub Means : Element → Reading → Text → Type 0
-Means e (Start params schemes) = Skip is_white (Opens schemes is_token (λ _. SchemeRest e) (Opens params is_token (NameRest e None) (Ends (Blank ≡ e))))
+Means e (Start params schemes) =
+    Skip is_white (Opens schemes is_token (λ _. SchemeRest e) (Opens params is_token (NameRest e None) (Ends (Blank ≡ e))))
 Means e (InScheme s) = Run is_token (SchemeRest e) s
 Means e (AfterScheme s) = SpaceRest e s
 Means e (InToken68 s x) = Run is_token68 (Pads e (SchemeToken68 s)) x
@@ -128,18 +129,32 @@ Means e (Trailing made) = Trail e made
 
 -- the readings after one more byte, each where its test says so
 abbrev pub moves : Kind → Spot → Reading → List (Bool × Reading)
-moves k b (Start params schemes) = (is_white k, Start params schemes) ∷ (schemes && is_token k, InScheme (b.byte ∷ [])) ∷ (params && is_token k, InName None b.at (b.byte ∷ [])) ∷ []
+moves k b (Start params schemes) =
+    (is_white k, Start params schemes) ∷ (schemes && is_token k, InScheme (b.byte ∷ []))
+    ∷ (params && is_token k, InName None b.at (b.byte ∷ [])) ∷ []
 moves k b (InScheme s) = (is_token k, InScheme (s ++ b.byte ∷ [])) ∷ (is_space k, AfterScheme s) ∷ (is_tab k, Trailing (Scheme s)) ∷ []
-moves k b (AfterScheme s) = (is_space k, AfterScheme s) ∷ (is_token68 k, InToken68 s (b.byte ∷ [])) ∷ (is_token k, InName (Some s) b.at (b.byte ∷ [])) ∷ (is_tab k, Trailing (Scheme s)) ∷ []
-moves k b (InToken68 s x) = (is_token68 k, InToken68 s (x ++ b.byte ∷ [])) ∷ (is_equals k, Padding s (x ++ b.byte ∷ [])) ∷ (is_white k, Trailing (SchemeToken68 s x)) ∷ []
+moves k b (AfterScheme s) =
+    (is_space k, AfterScheme s) ∷ (is_token68 k, InToken68 s (b.byte ∷ []))
+    ∷ (is_token k, InName (Some s) b.at (b.byte ∷ [])) ∷ (is_tab k, Trailing (Scheme s)) ∷ []
+moves k b (InToken68 s x) =
+    (is_token68 k, InToken68 s (x ++ b.byte ∷ [])) ∷ (is_equals k, Padding s (x ++ b.byte ∷ []))
+    ∷ (is_white k, Trailing (SchemeToken68 s x)) ∷ []
 moves k b (Padding s x) = (is_equals k, Padding s (x ++ b.byte ∷ [])) ∷ (is_white k, Trailing (SchemeToken68 s x)) ∷ []
-moves k b (InName s at n) = (is_token k, InName s at (n ++ b.byte ∷ [])) ∷ (is_white k, AfterName s at n) ∷ (is_equals k, AfterEquals s at n) ∷ []
+moves k b (InName s at n) =
+    (is_token k, InName s at (n ++ b.byte ∷ [])) ∷ (is_white k, AfterName s at n) ∷ (is_equals k, AfterEquals s at n) ∷ []
 moves k b (AfterName s at n) = (is_white k, AfterName s at n) ∷ (is_equals k, AfterEquals s at n) ∷ []
-moves k b (AfterEquals s at n) = (is_white k, AfterEquals s at n) ∷ (is_token k, InValue s at n (b.byte ∷ [])) ∷ (is_token68 k, InLoose s at n (b.byte ∷ [])) ∷ (is_quote k, InQuotes s at n []) ∷ []
+moves k b (AfterEquals s at n) =
+    (is_white k, AfterEquals s at n) ∷ (is_token k, InValue s at n (b.byte ∷ []))
+    ∷ (is_token68 k, InLoose s at n (b.byte ∷ [])) ∷ (is_quote k, InQuotes s at n []) ∷ []
 moves k b (InValue s at n v) = (is_token k, InValue s at n (v ++ b.byte ∷ [])) ∷ (is_white k, Trailing (with_value s at n v)) ∷ []
-moves k b (InLoose s at n v) = (is_token68 k, InLoose s at n (v ++ b.byte ∷ [])) ∷ (is_equals k, LoosePadding s at n (v ++ b.byte ∷ [])) ∷ (is_white k, Trailing (with_value s at n v)) ∷ []
-moves k b (LoosePadding s at n v) = (is_equals k, LoosePadding s at n (v ++ b.byte ∷ [])) ∷ (is_white k, Trailing (with_value s at n v)) ∷ []
-moves k b (InQuotes s at n v) = (is_quote k, Trailing (with_value s at n v)) ∷ (is_quotable k, InQuotes s at n (v ++ b.byte ∷ [])) ∷ (is_backslash k, Escaped s at n v) ∷ []
+moves k b (InLoose s at n v) =
+    (is_token68 k, InLoose s at n (v ++ b.byte ∷ [])) ∷ (is_equals k, LoosePadding s at n (v ++ b.byte ∷ []))
+    ∷ (is_white k, Trailing (with_value s at n v)) ∷ []
+moves k b (LoosePadding s at n v) =
+    (is_equals k, LoosePadding s at n (v ++ b.byte ∷ [])) ∷ (is_white k, Trailing (with_value s at n v)) ∷ []
+moves k b (InQuotes s at n v) =
+    (is_quote k, Trailing (with_value s at n v)) ∷ (is_quotable k, InQuotes s at n (v ++ b.byte ∷ []))
+    ∷ (is_backslash k, Escaped s at n v) ∷ []
 moves k b (Escaped s at n v) = (is_escapable k, InQuotes s at n (v ++ b.byte ∷ [])) ∷ []
 moves k b (Trailing made) = (is_white k, Trailing made) ∷ []
 

@@ -29,7 +29,9 @@ pub record Rules : Type 1 where
 abbrev pub Resumes : List Reading → Text → List Element → Type 0
 Resumes rs text [] = ⊥
 Resumes rs text (e ∷ []) = AnyMeans e rs text
-Resumes rs text (e ∷ f ∷ es) = (front : Text) × (comma : Spot) × (back : Text) × (text ≡ front ++ comma ∷ back) × (comma.byte ≡ 44) × AnyMeans e rs front × Splits back (f ∷ es)
+Resumes rs text (e ∷ f ∷ es) =
+    (front : Text) × (comma : Spot) × (back : Text) × (text ≡ front ++ comma ∷ back) × (comma.byte ≡ 44)
+    × AnyMeans e rs front × Splits back (f ∷ es)
 
 module _ (R : Rules) where
   -- the readings of an element that is about to begin
@@ -50,6 +52,8 @@ module _ (R : Rules) where
 
   -- a reader's state after these bytes: what a text that goes on so spells is what the state makes of the rest
   pub record Follows (g : R.Made) (p : Position) (w : Kept) (fed : List ℕ) : Type 0 where
-    pub lives : (rest : List ℕ) (x : R.X) → Spelled R.begun (spots 0 (fed ++ rest)) x → Lives g (readings (R.params g) (R.schemes g) p w) (spots (length fed) rest) x
-    pub spells : (rest : List ℕ) (x : R.X) → Lives g (readings (R.params g) (R.schemes g) p w) (spots (length fed) rest) x → Spelled R.begun (spots 0 (fed ++ rest)) x
+    pub lives : (rest : List ℕ) (x : R.X) → Spelled R.begun (spots 0 (fed ++ rest)) x
+        → Lives g (readings (R.params g) (R.schemes g) p w) (spots (length fed) rest) x
+    pub spells : (rest : List ℕ) (x : R.X) → Lives g (readings (R.params g) (R.schemes g) p w) (spots (length fed) rest) x
+        → Spelled R.begun (spots 0 (fed ++ rest)) x
     pub fits : Fit g (readings (R.params g) (R.schemes g) p w)

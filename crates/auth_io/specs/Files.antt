@@ -82,9 +82,11 @@ IsFailure FailedBefore = ⊤
 IsFailure FailedDone = ⊤
 
 -- What a replace says of the contents and of what was asked. Where it failed, it ended in one of the two ways.
-abbrev pub ReplaceSays : Option Contents → Option Contents → Option (List (List ℕ × Ending)) → Option (List (List ℕ × Ending)) → List ℕ → List ℕ → Replaced → Type 0
+abbrev pub ReplaceSays : Option Contents → Option Contents → Option (List (List ℕ × Ending))
+    → Option (List (List ℕ × Ending)) → List ℕ → List ℕ → Replaced → Type 0
 ReplaceSays old new asked asked' name bytes Done = (new ≡ contents_after old name bytes Well) × AddsAsked asked asked' ((name, Well) ∷ [])
-ReplaceSays old new asked asked' name bytes NotReplaced = (ending : Ending) × IsFailure ending × (new ≡ contents_after old name bytes ending) × AddsAsked asked asked' ((name, ending) ∷ [])
+ReplaceSays old new asked asked' name bytes NotReplaced =
+    (ending : Ending) × IsFailure ending × (new ≡ contents_after old name bytes ending) × AddsAsked asked asked' ((name, ending) ∷ [])
 ReplaceSays old new asked asked' name bytes NoMemory = (new ≡ old) × (asked' ≡ asked)
 
 -- no fault of the files

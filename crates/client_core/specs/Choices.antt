@@ -35,7 +35,8 @@ first_place (None ∷ places) = first_place places
 
 -- the best hash that is offered, in the order in which a client prefers them
 abbrev pub digest_place : List Item → Option ℕ
-digest_place items = first_place (position (is_digest Sha512t256) items ∷ position (is_digest Sha256) items ∷ position (is_digest Md5) items ∷ [])
+digest_place items =
+    first_place (position (is_digest Sha512t256) items ∷ position (is_digest Sha256) items ∷ position (is_digest Md5) items ∷ [])
 
 abbrev pub digest_choice : Option ℕ → Choice
 digest_choice (Some at) = Digest at

@@ -38,7 +38,8 @@ new_state role name password = record {
 }
 
 -- The response means this, and then the client keeps that.
-pub record Concludes (s : State) (request : OutRequest) (what : Sent) (response : Response) (moment : ℕ) (outcome : Outcome) (t : State) : Type 0 where
+pub record Concludes (s : State) (request : OutRequest) (what : Sent) (response : Response) (moment : ℕ) (outcome : Outcome)
+    (t : State) : Type 0 where
   pub said : Said
   pub heard : Heard
   pub says : Says s.role what response said

@@ -173,4 +173,5 @@ concluded s request what response moment (said.Info params) heard = informed s r
 
 -- what a client keeps that hears these challenges in answer to a request without credentials
 abbrev pub challenged_state : State → OutRequest → Response → ℕ → List Item → State
-challenged_state s request response moment items = applied (concluded s request sent.Nothing response moment (said.Challenge items) heard.Nothing).change s
+challenged_state s request response moment items =
+    applied (concluded s request sent.Nothing response moment (said.Challenge items) heard.Nothing).change s

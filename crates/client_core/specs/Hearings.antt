@@ -27,7 +27,8 @@ pair_of None found = None
 -- the `sid` and the `data` of an item of SCRAM-SHA-256 that has both
 abbrev pub message_in : Item → Option (List ℕ × List ℕ)
 message_in item =
-    if same_name item.scheme (codes "SCRAM-SHA-256") then pair_of (value_of (codes "sid") (params_of item.rest)) (value_of (codes "data") (params_of item.rest)) else None
+    if same_name item.scheme (codes "SCRAM-SHA-256")
+    then pair_of (value_of (codes "sid") (params_of item.rest)) (value_of (codes "data") (params_of item.rest)) else None
 
 abbrev pub or_later : Option (List ℕ × List ℕ) → Option (List ℕ × List ℕ) → Option (List ℕ × List ℕ)
 or_later (Some found) later = Some found
@@ -61,7 +62,8 @@ HearsFirst text (Final message) = ⊥
 
 -- what bytes say as the last message of a server
 abbrev pub HearsFinal : List ℕ → Heard → Type 0
-HearsFinal text (Final message) = SpellsServerFinal text (said_of message) × ((said : FinalSaid) → SpellsServerFinal text said → said ≡ said_of message)
+HearsFinal text (Final message) =
+    SpellsServerFinal text (said_of message) × ((said : FinalSaid) → SpellsServerFinal text said → said ≡ said_of message)
 HearsFinal text Nothing = (error : ScramError) × IsFault error × RefusesServerFinal text error
 HearsFinal text (First message) = ⊥
 

@@ -55,7 +55,8 @@ reuse_of moment params = reuse_in moment (value_of (codes "sr") params) (value_o
 -- the server's nonce goes on where the client's ends, and the iteration count is one that a client makes
 abbrev pub follows : List ℕ → ServerFirst → Bool
 follows nonce message =
-    (nat_lt (length nonce) (length message.nonce) && starts_with nat_eq message.nonce nonce) && (nat_le 4096 message.i && nat_le message.i 1000000)
+    (nat_lt (length nonce) (length message.nonce) && starts_with nat_eq message.nonce nonce)
+    && (nat_le 4096 message.i && nat_le message.i 1000000)
 
 abbrev pub exchange_of : User → First → List ℕ → ServerFirst → Exchange
 exchange_of user first sid message = record {

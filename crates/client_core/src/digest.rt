@@ -85,7 +85,8 @@ fn next_draw(
 ) -> Result<Draw, OutOfMemory>
     requires { count_of drawn.old nonce.now + 1 < 2 ^ 32 }
     ensures ok { IfOk result (λ draw. draw ≡ next_draw drawn.old choice.now nonce.now words.now) }
-    ensures quotable { IfOk result (λ draw. (is_quotable_text nonce.now && is_quotable choice.now.prime) ≡ true → is_quotable_draw draw ≡ true) }
+    ensures quotable { IfOk result (λ draw. (is_quotable_text nonce.now && is_quotable choice.now.prime) ≡ true
+        → is_quotable_draw draw ≡ true) }
     ensures drawn { OnOk result (drawn.new ≡ with_count drawn.old nonce.now (count_of drawn.old nonce.now + 1)) }
     ensures err { OnErr result (drawn.new ≡ drawn.old) }
 {

@@ -71,7 +71,8 @@ impl State {
         words: &[u8; 16],
     ) -> Result<Option<Sent>, OutOfMemory>
         requires { is_quotable_state self.old ≡ true }
-        ensures ok { IfOk result (λ found. again_given self.old moment words.now self.old.progress self.old.reuse ≡ option_map (λ sent. (sent, self.new)) found) }
+        ensures ok { IfOk result (λ found. again_given self.old moment words.now self.old.progress self.old.reuse
+            ≡ option_map (λ sent. (sent, self.new)) found) }
         ensures none { IfOk result (λ found. IfNone found (self.new ≡ self.old)) }
         ensures err { OnErr result (DrewAtMost self.old self.new) }
         ensures user { self.new.user ≡ self.old.user }

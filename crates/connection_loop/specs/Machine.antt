@@ -67,7 +67,10 @@ left_in (Lacks lacked now asks) = []
 
 -- What an answer says of the events of one request. A response has used them all, whatever comes later;
 -- at a lack they were answered and the next ask wasn't; after want of memory they were asked for.
-abbrev pub Responds : {S Q E : Type 0} → Machine S Q E → (Lack → Q → Type 0) → S → S → Incoming → List E → Result Response RespondError → Type 0
-Responds {E = E} m lacked before now incoming events (Ok response) = (more : List E) → turn m (events ++ more) before incoming [] ≡ Said response now (map (m.ask_of) events) more
-Responds {Q = Q} m lacked before now incoming events (Err (Lacking lack)) = (ask : Q) × (turn m events before incoming [] ≡ Lacks ask now (map (m.ask_of) events)) × lacked lack ask
+abbrev pub Responds : {S Q E : Type 0} → Machine S Q E → (Lack → Q → Type 0) → S → S → Incoming → List E
+    → Result Response RespondError → Type 0
+Responds {E = E} m lacked before now incoming events (Ok response) =
+    (more : List E) → turn m (events ++ more) before incoming [] ≡ Said response now (map (m.ask_of) events) more
+Responds {Q = Q} m lacked before now incoming events (Err (Lacking lack)) =
+    (ask : Q) × (turn m events before incoming [] ≡ Lacks ask now (map (m.ask_of) events)) × lacked lack ask
 Responds m lacked before now incoming events (Err OutOfMemory) = asks_in (turn m events before incoming []) ≡ map (m.ask_of) events

@@ -88,7 +88,8 @@ IsEndBehind (Some input) answered (Some left) = (read : List ℕ) × (drop answe
 
 -- A connection that was served to its end: the session over all that the link had to give is complete and ended so.
 -- What is left of the input follows the requests that were answered, and nothing is left where the input ended.
-pub record IsServed {S Q E : Type 0} (m : Machine S Q E) (before now : S) (left left' : Option (List ℕ)) (a : Account E) (served : Served) : Type 0 where
+pub record IsServed {S Q E : Type 0} (m : Machine S Q E) (before now : S) (left left' : Option (List ℕ)) (a : Account E)
+    (served : Served) : Type 0 where
   pub completes : Completes (whole_session m before left a) m a (stop_of served.end) now
   pub requests : served.requests ≡ (whole_session m before left a).requests
   pub admitted : served.admitted ≡ (whole_session m before left a).admitted
@@ -96,7 +97,8 @@ pub record IsServed {S Q E : Type 0} (m : Machine S Q E) (before now : S) (left 
   pub at_end : served.end ≡ Ended → IsAtEnd left'
 
 -- The input ended inside the message behind this many bytes.
-pub record IsTruncated {S Q E : Type 0} (m : Machine S Q E) (before now : S) (left left' : Option (List ℕ)) (a : Account E) (at : ℕ) : Type 0 where
+pub record IsTruncated {S Q E : Type 0} (m : Machine S Q E) (before now : S) (left left' : Option (List ℕ)) (a : Account E)
+    (at : ℕ) : Type 0 where
   pub completes : Completes (whole_session m before left a) m a Inside now
   pub place : at ≡ (whole_session m before left a).answered
   pub at_end : IsAtEnd left'
@@ -110,7 +112,8 @@ abbrev pub Stalls : {S Q E : Type 0} → Machine S Q E → (Lack → Q → Type 
 Stalls {Q = Q} m lacked before now a lack = (ask : Q) × lacked lack ask × Completes (read_session m before a) m a (Lacking ask) now
 
 -- what an answer says of the session
-abbrev pub Tells : {S Q E : Type 0} → Machine S Q E → (Lack → Q → Type 0) → S → S → Option (List ℕ) → Option (List ℕ) → Account E → Result Served ServeError → Type 0
+abbrev pub Tells : {S Q E : Type 0} → Machine S Q E → (Lack → Q → Type 0) → S → S → Option (List ℕ) → Option (List ℕ)
+    → Account E → Result Served ServeError → Type 0
 Tells m lacked before now left left' a (Ok served) = IsServed m before now left left' a served
 Tells m lacked before now left left' a (Err (Truncated at)) = IsTruncated m before now left left' a at
 Tells m lacked before now left left' a (Err ReadFault) = IsCutOff m before now a
@@ -121,7 +124,8 @@ Tells m lacked before now left left' a (Err OutOfMemory) = Begins (read_session 
 
 -- What a call took from the outside and gave to it is one account. Before each read all was written that is due,
 -- and the answer says what the session over the account says.
-pub record ServesSession {S Q E : Type 0} (m : Machine S Q E) (lacked : Lack → Q → Type 0) (passed : List E → Type 0) (link link' : LinkState) (shown shown' : Option (List ℕ)) (before now : S) (result : Result Served ServeError) : Type 0 where
+pub record ServesSession {S Q E : Type 0} (m : Machine S Q E) (lacked : Lack → Q → Type 0) (passed : List E → Type 0)
+    (link link' : LinkState) (shown shown' : Option (List ℕ)) (before now : S) (result : Result Served ServeError) : Type 0 where
   pub account : Account E
   pub linked : LinkPassed link link' account.input account.output account.reads
   pub moments : Adds shown shown' account.moments

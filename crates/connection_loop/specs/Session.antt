@@ -65,7 +65,8 @@ after past rest = record {
 
 -- nothing more than this text
 abbrev pub writes : {S Q E : Type 0} → List ℕ → Stop Q → S → Supply E → Session S Q E
-writes output stop state left = record { output = output; asks = []; requests = 0; admitted = 0; answered = 0; stop = stop; state = state; left = left }
+writes output stop state left =
+    record { output = output; asks = []; requests = 0; admitted = 0; answered = 0; stop = stop; state = state; left = left }
 
 -- what is written for a message before it is whole
 abbrev pub due_text : Bool → List ℕ
@@ -77,7 +78,8 @@ end_of_input input = if begun_at input then Inside else AtEnd
 
 -- the reply to a bad message: its status in words, and that the connection closes
 abbrev pub refusal : ℕ → ℕ → List ℕ
-refusal status moment = answer_text (record { status = status; moment = moment; lines = []; body = status_body status; to_head = false; close = true })
+refusal status moment =
+    answer_text (record { status = status; moment = moment; lines = []; body = status_body status; to_head = false; close = true })
 
 -- whether the connection closes after a request, where this many may still come
 abbrev pub is_last : Bool → ℕ → Bool
@@ -97,7 +99,8 @@ admits response = if response.admitted then 1 else 0
 
 -- one request of this many bytes
 abbrev pub request_past : {Q : Type 0} → List ℕ → ℕ → Response → List Q → Past Q
-request_past put bytes response asks = record { output = put ++ response.text; asks = asks; requests = 1; admitted = admits response; answered = bytes }
+request_past put bytes response asks =
+    record { output = put ++ response.text; asks = asks; requests = 1; admitted = admits response; answered = bytes }
 
 -- the session from a state over an input, where this many requests may still come
 unfoldable pub session : {S Q E : Type 0} → Machine S Q E → ℕ → S → List ℕ → Supply E → Session S Q E
@@ -110,11 +113,22 @@ session m (suc room) state input supply = elim (front input) [
   ]
   | Whole waits request rest ↦ elim (supply.moments) [
     | [] ↦ writes (due_text waits) NoMoment state supply
-    | moment ∷ moments ↦ elim (turn m (supply.events) state (record { request = request; last = is_last (request.closes) room; moment = moment }) []) [
-      | Lacks ask now asks ↦ record { output = due_text waits; asks = asks; requests = 0; admitted = 0; answered = 0; stop = Lacking ask; state = now; left = record { moments = moments; events = [] } }
-      | Said response now asks events ↦
-          after (request_past (due_text waits) (length input - length rest) response asks)
-          (closed_or (request.closes) room now (record { moments = moments; events = events }) (session m room now rest (record { moments = moments; events = events })))
-    ]
+    | moment ∷ moments ↦ elim (turn m (supply.events) state
+        (record { request = request; last = is_last (request.closes) room; moment = moment }) []) [
+          | Lacks ask now asks ↦ record {
+            output = due_text waits;
+            asks = asks;
+            requests = 0;
+            admitted = 0;
+            answered = 0;
+            stop = Lacking ask;
+            state = now;
+            left = record { moments = moments; events = [] };
+          }
+          | Said response now asks events ↦
+              after (request_past (due_text waits) (length input - length rest) response asks)
+              (closed_or (request.closes) room now (record { moments = moments; events = events })
+              (session m room now rest (record { moments = moments; events = events })))
+        ]
   ]
 ]

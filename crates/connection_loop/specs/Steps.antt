@@ -64,7 +64,9 @@ pub record TakesPiece (link link' : LinkState) (old new : Held) (piece : List �
 
 -- what a read of one piece says: whether there was any
 abbrev pub ReadsPiece : LinkState → LinkState → Held → Held → Result Bool ServeError → Type 0
-ReadsPiece link link' old new (Ok more) = (piece : List ℕ) × TakesPiece link link' old new piece × (more ≡ true → 0 < length piece) × (more ≡ false → (piece ≡ []) × IsAtEnd link'.left)
+ReadsPiece link link' old new (Ok more) =
+    (piece : List ℕ) × TakesPiece link link' old new piece × (more ≡ true → 0 < length piece)
+    × (more ≡ false → (piece ≡ []) × IsAtEnd link'.left)
 ReadsPiece link link' old new (Err (Truncated at)) = ⊥
 ReadsPiece link link' old new (Err ReadFault) = LinkPassed link link' [] [] []
 ReadsPiece link link' old new (Err WriteFault) = ⊥
@@ -121,11 +123,15 @@ pub record Fronts {S Q E : Type 0} (m : Machine S Q E) (before : S) (incoming : 
 
 -- the next ask has no answer, and nothing was written
 abbrev pub Lacked : {S Q E : Type 0} → Machine S Q E → (Lack → Q → Type 0) → S → S → Incoming → Account E → Lack → Type 0
-Lacked {Q = Q} m lacked before now incoming a lack = (ask : Q) × (turn_of m before incoming a ≡ Lacks ask now (asks_of m a)) × lacked lack ask × (a.output ≡ [])
+Lacked {Q = Q} m lacked before now incoming a lack =
+    (ask : Q) × (turn_of m before incoming a ≡ Lacks ask now (asks_of m a)) × lacked lack ask × (a.output ≡ [])
 
 -- what an answer says of one request
 abbrev pub Serves : {S Q E : Type 0} → Machine S Q E → (Lack → Q → Type 0) → S → S → Incoming → Account E → Result ℕ ServeError → Type 0
-Serves {E = E} m lacked before now incoming a (Ok admitted) = (response : Response) × ((more : List E) → turn m (a.events ++ more) before incoming [] ≡ Said response now (asks_of m a) more) × (a.output ≡ response.text) × (admitted ≡ admits response)
+Serves {E = E} m lacked before now incoming a (Ok admitted) =
+    (response : Response) × ((more : List E)
+    → turn m (a.events ++ more) before incoming [] ≡ Said response now (asks_of m a) more) × (a.output ≡ response.text)
+    × (admitted ≡ admits response)
 Serves m lacked before now incoming a (Err RandomFault) = Lacked m lacked before now incoming a Random
 Serves m lacked before now incoming a (Err (Worn calls)) = Lacked m lacked before now incoming a (TableWorn calls)
 Serves m lacked before now incoming a (Err WriteFault) = Fronts m before incoming a × (state_in (turn_of m before incoming a) ≡ now)
@@ -147,7 +153,15 @@ pub record Place (S : Type 0) : Type 0 where
 
 -- a place after some requests
 abbrev pub place_at : {S : Type 0} → S → Held → ℕ → ℕ → Place S
-place_at state held requests admitted = record { room = REQUEST_LIMIT - requests; state = state; ahead = held.rest; requests = requests; admitted = admitted; answered = held.at }
+place_at state held requests admitted =
+    record {
+      room = REQUEST_LIMIT - requests;
+      state = state;
+      ahead = held.rest;
+      requests = requests;
+      admitted = admitted;
+      answered = held.at;
+    }
 
 -- the session from a place on, over what was taken since, where these bytes follow
 abbrev pub session_from : {S Q E : Type 0} → Machine S Q E → Place S → Account E → List ℕ → Session S Q E
@@ -161,7 +175,8 @@ MayFollow BadMessage rest = ⊤
 MayFollow Limit rest = ⊤
 
 -- the session from a place on ended so, whatever follows
-pub record EndsAt {S Q E : Type 0} (m : Machine S Q E) (place : Place S) (now : S) (a : Account E) (served : Served) (rest : List ℕ) : Type 0 where
+pub record EndsAt {S Q E : Type 0} (m : Machine S Q E) (place : Place S) (now : S) (a : Account E) (served : Served)
+    (rest : List ℕ) : Type 0 where
   pub completes : Completes (session_from m place a rest) m a (stop_of served.end) now
   pub requests : served.requests ≡ place.requests + (session_from m place a rest).requests
   pub admitted : served.admitted ≡ place.admitted + (session_from m place a rest).admitted
@@ -174,7 +189,8 @@ StallsAt {Q = Q} m lacked place now a lack = (ask : Q) × lacked lack ask × Com
 -- what an answer says of the session from a place on
 abbrev pub Follows : {S Q E : Type 0} → Machine S Q E → (Lack → Q → Type 0) → Place S → S → Account E → Result Served ServeError → Type 0
 Follows m lacked place now a (Ok served) = (rest : List ℕ) → MayFollow (served.end) rest → EndsAt m place now a served rest
-Follows m lacked place now a (Err (Truncated at)) = Completes (session_from m place a []) m a Inside now × (at ≡ place.answered + (session_from m place a []).answered)
+Follows m lacked place now a (Err (Truncated at)) =
+    Completes (session_from m place a []) m a Inside now × (at ≡ place.answered + (session_from m place a []).answered)
 Follows {Q = Q} m lacked place now a (Err ReadFault) = (stop : Stop Q) × IsOpen stop × Completes (session_from m place a []) m a stop now
 Follows m lacked place now a (Err WriteFault) = Begins (session_from m place a []) m a × ((session_from m place a []).state ≡ now)
 Follows m lacked place now a (Err RandomFault) = StallsAt m lacked place now a Random
@@ -196,7 +212,8 @@ pub record GoesOn {S Q E : Type 0} (m : Machine S Q E) (place : Place S) (now : 
   pub bytes : ℕ
   pub goes : (room : ℕ) → place.room ≡ suc room → (rest : List ℕ) (more : Supply E) →
       session m (suc room) place.state ((place.ahead ++ a.input) ++ rest) (add (supply_of a) more)
-      ≡ after (record { output = a.output; asks = asks_of m a; requests = 1; admitted = one; answered = bytes }) (session m room now (kept.rest ++ rest) more)
+      ≡ after (record { output = a.output; asks = asks_of m a; requests = 1; admitted = one; answered = bytes })
+      (session m room now (kept.rest ++ rest) more)
   pub counted : bytes + length kept.rest ≡ length (place.ahead ++ a.input)
   pub place_is : kept.at ≡ place.answered + bytes
   pub between : IsBetween kept
@@ -220,7 +237,9 @@ AdmitsOne (Err e) = ⊤
 
 -- what comes after a request was answered
 abbrev pub step_after : Bool → ℕ → ℕ → ℕ → Step
-step_after closing one requests admitted = if closing && nat_lt (requests + 1) REQUEST_LIMIT then Over (record { requests = requests + 1; admitted = admitted + one; end = CloseAsked }) else More one
+step_after closing one requests admitted =
+    if closing && nat_lt (requests + 1) REQUEST_LIMIT
+    then Over (record { requests = requests + 1; admitted = admitted + one; end = CloseAsked }) else More one
 
 -- reads while a message was awaited were prompt, from a place on
 abbrev pub session_at : {S Q E : Type 0} → Machine S Q E → Place S → Account E → ℕ × ℕ → Supply E → Session S Q E
@@ -236,7 +255,9 @@ abbrev pub PromptFrom : {S Q E : Type 0} → Machine S Q E → Place S → Accou
 PromptFrom m place a = AllByRecursion (IsPromptAt m place a) a.reads
 
 -- what one step took from the outside and gave to it, and what it says of the session from a place on
-pub record StepsFrom {S Q E : Type 0} (m : Machine S Q E) (lacked : Lack → Q → Type 0) (passed : List E → Type 0) (link link' : LinkState) (Shown : List ℕ → Type 0) (place : Place S) (now : S) (kept : Held) (result : Result Step ServeError) : Type 0 where
+pub record StepsFrom {S Q E : Type 0} (m : Machine S Q E) (lacked : Lack → Q → Type 0) (passed : List E → Type 0)
+    (link link' : LinkState) (Shown : List ℕ → Type 0) (place : Place S) (now : S) (kept : Held)
+    (result : Result Step ServeError) : Type 0 where
   pub account : Account E
   pub linked : LinkPassed link link' account.input account.output account.reads
   pub moments : Shown account.moments

@@ -32,8 +32,10 @@ pub fn drive<L: Link, C: Clock, R: Responder>(
         (C.shown clock.old) (C.shown clock.new) (R.state responder.old) (R.state responder.new) result }
 
     // An input of whole requests is served to its end, or to the request that closes.
-    ensures complete { (input : List ℕ) (requests : List Request) → L.left link.old ≡ Some input → Cuts input requests [] → length requests < REQUEST_LIMIT → EndsWell result }
-    ensures full { (input : List ℕ) (requests : List Request) → L.left link.old ≡ Some input → Cuts input requests [] → length requests ≡ REQUEST_LIMIT → OnlyLastCloses requests → EndsAtLimit result }
+    ensures complete { (input : List ℕ) (requests : List Request) → L.left link.old ≡ Some input → Cuts input requests []
+        → length requests < REQUEST_LIMIT → EndsWell result }
+    ensures full { (input : List ℕ) (requests : List Request) → L.left link.old ≡ Some input → Cuts input requests []
+        → length requests ≡ REQUEST_LIMIT → OnlyLastCloses requests → EndsAtLimit result }
 
     // No fault is answered without its cause, and no count of faults falls.
     ensures read_fault { result ≡ Err ServeError.ReadFault → Rose (L.read_faults link.old) (L.read_faults link.new) }

@@ -63,11 +63,13 @@ pub trait Responder {
         moment: u64,
     ) -> Result<Response, RespondError>
         ensures responds { (events : List Self.Event) × passed self.old self.new events
-            × Responds machine (lacked self.old self.new) (state self.old) (state self.new) (record { request = request.now; last = last; moment = moment }) events result };
+            × Responds machine (lacked self.old self.new) (state self.old) (state self.new)
+            (record { request = request.now; last = last; moment = moment }) events result };
 
     ghost passed_none: { (a : Self) → passed a a [] };
 
     ghost passed_join: { (a b c : Self) (xs ys : List Self.Event) → passed a b xs → passed b c ys → passed a c (xs ++ ys) };
 
-    ghost lacked_later: { (a b c : Self) (xs : List Self.Event) → passed a b xs → (lack : Lack) (ask : Self.Ask) → lacked b c lack ask → lacked a c lack ask };
+    ghost lacked_later: { (a b c : Self) (xs : List Self.Event) → passed a b xs → (lack : Lack) (ask : Self.Ask)
+        → lacked b c lack ask → lacked a c lack ask };
 }

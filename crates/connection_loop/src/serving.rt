@@ -47,7 +47,8 @@ fn serve_request<L: Link, C: Clock, R: Responder>(
         × LinkPassed (at link.old) (at link.new) [] output []
         × Adds (C.shown clock.old) (C.shown clock.new) (moment ∷ [])
         × R.passed responder.old responder.new events
-        × Serves R.machine (R.lacked responder.old responder.new) (R.state responder.old) (R.state responder.new) (record { request = request.now; last = last; moment = moment }) (request_account output moment events) result }
+        × Serves R.machine (R.lacked responder.old responder.new) (R.state responder.old) (R.state responder.new)
+        (record { request = request.now; last = last; moment = moment }) (request_account output moment events) result }
     ensures few { IfOk result (λ count. count ≤ 1) }
     ensures given { L.given link.new ≡ L.given link.old }
     ensures read_faults { L.read_faults link.new ≡ L.read_faults link.old }

@@ -118,7 +118,8 @@ pub record FaultBehind (version : Version) (whole : List ℕ) (error : StoreErro
 abbrev pub IsTitleFaulty : LineFault → List ℕ → Type 0
 IsTitleFaulty why whole =
     ((why ≡ Form) × ((version : Version) × (whole ≡ title version)))
-    ⊎ ((why ≡ Header) × ((version : Version) → whole ≢ title version) × ((version : Version) (rest : List ℕ) → whole ≢ header version ++ rest))
+    ⊎ ((why ≡ Header) × ((version : Version) → whole ≢ title version)
+    × ((version : Version) (rest : List ℕ) → whole ≢ header version ++ rest))
 
 -- what is wrong with the first faulty line of a text
 abbrev pub FirstFault : List ℕ → StoreError → Type 0

@@ -52,7 +52,8 @@ scram_of name realm entries = option_and_then keys_of (entry_of name realm kinds
 -- whether the entry is on and has a secret by this algorithm in this realm, and its name has this hash (RFC 7616 section 3.4.4)
 abbrev pub is_hashed : List ℕ → List ℕ → Algorithm → Entry → Bool
 is_hashed hash realm alg entry =
-    (bytes_eq (user_hash alg entry.name realm) hash && bytes_eq entry.realm realm) && (entry.on && same_kind (kind_of entry.secret) (kinds.Digest alg))
+    (bytes_eq (user_hash alg entry.name realm) hash && bytes_eq entry.realm realm)
+    && (entry.on && same_kind (kind_of entry.secret) (kinds.Digest alg))
 
 -- the first name in this realm that has this hash
 abbrev pub name_of_hash : List ℕ → List ℕ → Algorithm → List Entry → Option (List ℕ)

@@ -13,7 +13,8 @@ keys_line count salt stored server = count ++ 44 ∷ (salt ++ 44 ∷ (stored ++ 
 
 -- the count in decimal digits, the salt and the keys in base64 with padding (RFC 4648 section 4)
 abbrev pub keys_text : ScramKeys → List ℕ
-keys_text keys = keys_line (decimal keys.i) (encode_of standard keys.salt.items) (encode_of standard keys.stored) (encode_of standard keys.server)
+keys_text keys =
+    keys_line (decimal keys.i) (encode_of standard keys.salt.items) (encode_of standard keys.stored) (encode_of standard keys.server)
 
 -- the byte doesn't stand in the text
 abbrev pub HasNo : ℕ → List ℕ → Type 0

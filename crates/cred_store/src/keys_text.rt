@@ -96,7 +96,8 @@ fn read_salt(text: &[u8]) -> Option<ArrayVec<u8, SALT_LIMIT>>
     ensures bytes { IfSome result (λ salt. IsBytes salt.items) }
     ensures long { IfSome result (λ salt. 1 ≤ length salt.items) }
     ensures short { IfSome result (λ salt. length salt.items ≤ 32) }
-    ensures none { IfNone result ((salt : List ℕ) → IsBytes salt → 1 ≤ length salt → length salt ≤ 32 → encode_of standard salt ≢ text.now) }
+    ensures none { IfNone result ((salt : List ℕ) → IsBytes salt → 1 ≤ length salt → length salt ≤ 32
+        → encode_of standard salt ≢ text.now) }
 {
     let Some(salt) = read_base64(text) else {
         return None;

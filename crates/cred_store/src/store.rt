@@ -128,7 +128,8 @@ impl Store {
     /// as it was.
     pub fn import_htdigest(&mut self, alloc: Global, text: &[u8]) -> Result<u32, StoreError>
         requires { length self.old + length text.now < 2 ^ 32 }
-        ensures ok { IfOk result (λ count. (pairs : List EntryValue) × ArePairs (lines text.now) pairs × (count ≡ length (imported pairs)) × (self.new ≡ put_all (imported pairs) self.old)) }
+        ensures ok { IfOk result (λ count. (pairs : List EntryValue) × ArePairs (lines text.now) pairs
+            × (count ≡ length (imported pairs)) × (self.new ≡ put_all (imported pairs) self.old)) }
         ensures fault { IfErr result (FirstPairFault text.now) }
         ensures refused { IfErr result (λ error. error ≢ NoMemory → (pairs : List EntryValue) → ArePairs (lines text.now) pairs → ⊥) }
         ensures err { OnErr result (self.new ≡ self.old) }

@@ -96,7 +96,8 @@ fn check_order(
     number: u32,
 ) -> Result<(), StoreError>
     ensures rising { OnOk result (IsRising entries.now → IsRising (entries.now ++ entry_said line.now ∷ [])) }
-    ensures err { IfErr result (λ error. (text more : List ℕ) → IsEntry version (entry_said line.now) → text ≡ entry_line version (entry_said line.now) ++ more → FaultAfter version entries.now text number error) }
+    ensures err { IfErr result (λ error. (text more : List ℕ) → IsEntry version (entry_said line.now)
+        → text ≡ entry_line version (entry_said line.now) ++ more → FaultAfter version entries.now text number error) }
 {
     let Some(last) = entries.last() else {
         return Ok(());

@@ -49,7 +49,8 @@ pub record DialState : Type 0 where
   pub faults : ℕ
   pub link_faults : ℕ
 
-abbrev pub dial_state : {D : Type 0} → (D → Option Dialled) → (D → Option (List (List ℕ))) → (D → Option Handed) → (D → ℕ) → (D → ℕ) → D → DialState
+abbrev pub dial_state : {D : Type 0} → (D → Option Dialled) → (D → Option (List (List ℕ))) → (D → Option Handed) → (D → ℕ)
+    → (D → ℕ) → D → DialState
 dial_state dialled coming handed faults link_faults d =
     record { dialled = dialled d; coming = coming d; handed = handed d; faults = faults d; link_faults = link_faults d }
 

@@ -53,9 +53,12 @@ dial_none u = record {
 pub dial_then : (u v w : DialState) (xs ys : List DialEvent) → DialPassed u v xs → DialPassed v w ys → DialPassed u w (xs ++ ys)
 dial_then u v w xs ys p q = record {
   sound = All-append IsSound xs ys p.sound q.sound;
-  dialled = subst (λ (l : Dialled). Adds u.dialled w.dialled l) (sym (dialled_in-append xs ys)) (Adds_trans u.dialled v.dialled w.dialled (dialled_in xs) (dialled_in ys) p.dialled q.dialled);
-  coming = subst (λ (l : List (Option (List ℕ))). HandsAll u.coming w.coming l) (sym (lefts_in-append xs ys)) (HandsAll_then u.coming v.coming w.coming (lefts_in xs) (lefts_in ys) p.coming q.coming);
-  handed = subst (λ (l : List (List ℕ × Bool)). TakesAll u.handed w.handed l) (sym (ended_in-append xs ys)) (TakesAll_then u.handed v.handed w.handed (ended_in xs) (ended_in ys) p.handed q.handed);
+  dialled = subst (λ (l : Dialled). Adds u.dialled w.dialled l) (sym (dialled_in-append xs ys))
+      (Adds_trans u.dialled v.dialled w.dialled (dialled_in xs) (dialled_in ys) p.dialled q.dialled);
+  coming = subst (λ (l : List (Option (List ℕ))). HandsAll u.coming w.coming l) (sym (lefts_in-append xs ys))
+      (HandsAll_then u.coming v.coming w.coming (lefts_in xs) (lefts_in ys) p.coming q.coming);
+  handed = subst (λ (l : List (List ℕ × Bool)). TakesAll u.handed w.handed l) (sym (ended_in-append xs ys))
+      (TakesAll_then u.handed v.handed w.handed (ended_in xs) (ended_in ys) p.handed q.handed);
   faults = faults_then xs ys u.faults v.faults w.faults p.faults q.faults;
   link_faults = link_faults_then xs ys u.link_faults v.link_faults w.link_faults p.link_faults q.link_faults;
 }

@@ -68,7 +68,8 @@ pub record Talks (outgoing : Outgoing) (u v : TalkState) (result : Result Recept
 abbrev pub SendsOnce : Outgoing → List DialEvent → Result Reception OutOfMemory → Type 0
 SendsOnce outgoing [] (Ok reception) = ⊥
 SendsOnce outgoing [] (Err error) = ⊤
-SendsOnce outgoing (event ∷ []) (Ok reception) = (outgoing_in event ≡ outgoing) × (wants_memory event ≡ false) × (reception ≡ received event)
+SendsOnce outgoing (event ∷ []) (Ok reception) =
+    (outgoing_in event ≡ outgoing) × (wants_memory event ≡ false) × (reception ≡ received event)
 SendsOnce outgoing (event ∷ []) (Err error) = outgoing_in event ≡ outgoing
 SendsOnce outgoing (event ∷ other ∷ events) result = ⊥
 

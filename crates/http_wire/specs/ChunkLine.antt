@@ -15,7 +15,9 @@ abbrev pub behind_size : ℕ → LineStep
 behind_size b = if b == 13 then On End else if b == 59 then On Extension else if is_ows b then On Pad else Never
 
 abbrev pub line_step : LinePart → ℕ → LineStep
-line_step (Digits count) b = if is_ascii_hexdigit b then (if nat_lt count 16 then On (Digits (count + 1)) else Never) else if count == 0 then Never else behind_size b
+line_step (Digits count) b =
+    if is_ascii_hexdigit b then (if nat_lt count 16 then On (Digits (count + 1)) else Never)
+    else if count == 0 then Never else behind_size b
 line_step Pad b = behind_size b
 line_step Extension b = if b == 13 then On End else if is_extension_byte b then On Extension else Never
 line_step End b = if b == 10 then Done else Never

@@ -67,7 +67,8 @@ judge_fault (Some status) head = Faulty status
 judge_fault None head = Sound head
 
 unfoldable pub judge_fields : List ℕ → List ℕ → ℕ → Pairs → Judged
-judge_fields method target minor fields = judge_fault (fault_of minor (named_of fields)) (sound_head method target minor fields (named_of fields))
+judge_fields method target minor fields =
+    judge_fault (fault_of minor (named_of fields)) (sound_head method target minor fields (named_of fields))
 
 -- where each name is one of a header map
 abbrev pub judge_named : RequestHead → Option Pairs → Judged

@@ -23,7 +23,15 @@ start_of line =
 abbrev pub head_of : List Line → Option RequestHead
 head_of [] = None
 head_of (line ∷ lines) = start_of line.0 >>= λ start. section_of lines >>= λ section.
-    Some (record { blank = []; method = start.method; target = start.target; minor = start.minor; line_end = line.1; fields = section.0; last = section.1 })
+    Some (record {
+      blank = [];
+      method = start.method;
+      target = start.target;
+      minor = start.minor;
+      line_end = line.1;
+      fields = section.0;
+      last = section.1;
+    })
 
 -- the head that the text is, if it is one
 unfoldable pub read_head : List ℕ → Option RequestHead

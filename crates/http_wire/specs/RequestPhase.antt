@@ -13,7 +13,8 @@ use Rattle.http_wire.specs.declared.front.TheConstants.{HEAD_LIMIT}
 
 abbrev pub IsPhase : List ℕ → Phase → Type 0
 IsPhase bytes (Searching place) = Tracks (take HEAD_LIMIT bytes) place
-IsPhase bytes (Body head start end) = (head_place (take HEAD_LIMIT bytes) ≡ Some (start, end)) × (judge (slice_range bytes start end) ≡ Sound head)
+IsPhase bytes (Body head start end) =
+    (head_place (take HEAD_LIMIT bytes) ≡ Some (start, end)) × (judge (slice_range bytes start end) ≡ Sound head)
 IsPhase bytes (Stopped status) = front bytes ≡ Wrong status
 
 -- the same, and it has looked at them all

@@ -35,7 +35,8 @@ framing_of to_head status fields =
 unfoldable pub judge_response_fields : Bool → ℕ → Pairs → JudgedResponse
 judge_response_fields to_head status fields =
     if nat_lt status 100 || nat_lt 599 status then Faulty
-    else if not (are_lengths (values_of fields (codes "content-length"))) || is_other_coding (values_of fields (codes "transfer-encoding")) then Faulty
+    else if not (are_lengths (values_of fields (codes "content-length")))
+    || is_other_coding (values_of fields (codes "transfer-encoding")) then Faulty
     else if nat_lt status 200 then Informational
     else Sound (record { response = record { status = status; fields = fields; body = [] }; framing = framing_of to_head status fields })
 

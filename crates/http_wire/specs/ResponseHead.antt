@@ -29,7 +29,15 @@ status_line_of line =
 abbrev pub head_behind : List LineEnd → List Line → Option ResponseHead
 head_behind blank [] = None
 head_behind blank (line ∷ lines) = status_line_of line.0 >>= λ start. section_of lines >>= λ section.
-    Some (record { blank = blank; minor = start.minor; digits = start.digits; reason = start.reason; line_end = line.1; fields = section.0; last = section.1 })
+    Some (record {
+      blank = blank;
+      minor = start.minor;
+      digits = start.digits;
+      reason = start.reason;
+      line_end = line.1;
+      fields = section.0;
+      last = section.1;
+    })
 
 -- one empty line may stand before the head
 abbrev pub response_head_of : List Line → Option ResponseHead

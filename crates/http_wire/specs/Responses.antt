@@ -30,7 +30,8 @@ add response text = record response { body = response.body ++ text }
 
 -- a body of which that many bytes are missing
 abbrev pub sized_body : Response → ℕ → ℕ → List ℕ → ResponseFront
-sized_body response at left bytes = if nat_lt (length bytes) left then Incomplete at else Complete (add response (take left bytes)) (drop left bytes)
+sized_body response at left bytes =
+    if nat_lt (length bytes) left then Incomplete at else Complete (add response (take left bytes)) (drop left bytes)
 
 -- a body up to the end of the input
 abbrev pub open_body : Response → ℕ → List ℕ → ResponseFront
@@ -74,7 +75,8 @@ at_line next response at place NoLine bytes = Broken place
 -- The first 16,384 bytes have the end of a chunk line. Each chunk takes bytes, so that there are fewer than bytes.
 abbrev pub chunks_in : ℕ → Response → ℕ → ℕ → List ℕ → ResponseFront
 chunks_in zero response at place bytes = Incomplete at
-chunks_in (suc rounds) response at place bytes = at_line (λ r p b. chunks_in rounds r at p b) response at place (chunk_line (take HEAD_LIMIT bytes)) bytes
+chunks_in (suc rounds) response at place bytes =
+    at_line (λ r p b. chunks_in rounds r at p b) response at place (chunk_line (take HEAD_LIMIT bytes)) bytes
 
 unfoldable pub chunks : Response → ℕ → ℕ → List ℕ → ResponseFront
 chunks response at place bytes = chunks_in (length bytes) response at place bytes
@@ -100,7 +102,8 @@ at_head next to_head at (Some n) bytes = behind_head next (judge_response to_hea
 -- The first 16,384 bytes have the head's end. Each head takes bytes, so that there are fewer than bytes.
 abbrev pub responses_in : ℕ → Bool → ℕ → List ℕ → ResponseFront
 responses_in zero to_head at bytes = Incomplete at
-responses_in (suc rounds) to_head at bytes = at_head (λ p b. responses_in rounds to_head p b) to_head at (head_len (take HEAD_LIMIT bytes)) bytes
+responses_in (suc rounds) to_head at bytes =
+    at_head (λ p b. responses_in rounds to_head p b) to_head at (head_len (take HEAD_LIMIT bytes)) bytes
 
 -- the answer to a request, whose method may be HEAD
 unfoldable pub response_front : Bool → ℕ → List ℕ → ResponseFront

@@ -49,7 +49,8 @@ impl Model for ResponseFeed {
 
 // behind a head without fault
 fn body_stage(head: SoundResponse, at: u64) -> Stage
-    ensures front { (to_head : Bool) (bytes : List ℕ) → stage_front to_head result at bytes ≡ body_front head.response head.framing at bytes }
+    ensures front { (to_head : Bool) (bytes : List ℕ)
+        → stage_front to_head result at bytes ≡ body_front head.response head.framing at bytes }
     ensures stage { (rest : List ℕ) → IsStage rest result }
 {
     let response = head.response;
@@ -417,7 +418,8 @@ impl ResponseFeed {
 
     fn read_data_end(&mut self, response: Response, at: u64, line_at: u64) -> Step
         requires { is_over self.old ≡ false }
-        ensures { Steps (λ more. chunk_end (λ p b. chunks response at p b) at line_at (place_of self.old) (self.old.rest ++ more)) self.old self.new result }
+        ensures { Steps (λ more. chunk_end (λ p b. chunks response at p b) at line_at (place_of self.old) (self.old.rest
+            ++ more)) self.old self.new result }
     {
         match has_crlf(self.rest.as_slice()) {
             Some(true) => {

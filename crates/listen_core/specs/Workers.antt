@@ -30,14 +30,18 @@ abbrev pub seat_of : {A F C W T : Type 0} → A → OriginServer F C W T → T
 seat_of accept server = server.seat
 
 -- a worker beside its seat
-abbrev pub state_of : {A F C W T : Type 0} → (A → Option (List (List ℕ))) → (A → Option Handed) → (A → ℕ) → Worker A F C W → T → WorkerState (OriginServer F C W T)
+abbrev pub state_of : {A F C W T : Type 0} → (A → Option (List (List ℕ))) → (A → Option Handed) → (A → ℕ) → Worker A F C W
+    → T → WorkerState (OriginServer F C W T)
 state_of coming handed faults worker seat = worker_state coming handed faults worker.accept (server_of worker seat)
 
 -- how a site is served
-abbrev pub origin_service : {F C W T : Type 0} → (F → Option Contents) → (F → Option (List (List ℕ × Ending))) → (F → ℕ) → (C → Option (List ℕ)) → (W → Option (List (List ℕ))) → (W → ℕ) → (T → Seat) → Site → Service Server (Operation FileOperation) (Event FileEvent) (OriginServer F C W T)
+abbrev pub origin_service : {F C W T : Type 0} → (F → Option Contents) → (F → Option (List (List ℕ × Ending))) → (F → ℕ)
+    → (C → Option (List ℕ)) → (W → Option (List (List ℕ))) → (W → ℕ) → (T → Seat) → Site
+    → Service Server (Operation FileOperation) (Event FileEvent) (OriginServer F C W T)
 origin_service contents asked file_faults shown drawn random_faults seat site =
     let at = outside_at contents asked file_faults drawn random_faults seat in
-    service_of origin (λ s. server site (shards_of seat s)) (λ s. shown s.clock) (λ a b. Passed (at a) (at b)) (λ a b. LackedBy (at a).table (at b).table) (λ a b result. Unit {0})
+    service_of origin (λ s. server site (shards_of seat s)) (λ s. shown s.clock) (λ a b. Passed (at a) (at b))
+    (λ a b. LackedBy (at a).table (at b).table) (λ a b result. Unit {0})
 
 -- The seat notes of one of its shards that this is at its limit.
 abbrev pub NotesLimit : Seat → Seat → Type 0

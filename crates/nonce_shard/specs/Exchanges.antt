@@ -34,15 +34,18 @@ openings past = filter_map (λ a. opening_in a.call.what a.time) past
 
 -- whether a name, at the place of its serial, is the name of this exchange, of that space
 abbrev pub names_exchange : ℕ → TableName → ℕ → Opening → Bool
-names_exchange shard name space o = kinds_eq name.kind names.Exchange && (name.shard == shard) && pointwise nat_eq name.random o.random && (o.space == space)
+names_exchange shard name space o =
+    kinds_eq name.kind names.Exchange && (name.shard == shard) && pointwise nat_eq name.random o.random && (o.space == space)
 
 -- and few enough were opened since
 abbrev pub is_there : Sizes → ℕ → List Answered → TableName → ℕ → Opening → Bool
-is_there sizes shard past name space o = names_exchange shard name space o && nat_lt (length (openings past) - name.serial - 1) sizes.exchanges
+is_there sizes shard past name space o =
+    names_exchange shard name space o && nat_lt (length (openings past) - name.serial - 1) sizes.exchanges
 
 -- the exchange of this name in this space, where it is there
 abbrev pub opening : Sizes → ℕ → List Answered → TableName → ℕ → Option Opening
-opening sizes shard past name space = option_and_then (λ o. if is_there sizes shard past name space o then Some o else None) (slice_get (openings past) name.serial)
+opening sizes shard past name space =
+    option_and_then (λ o. if is_there sizes shard past name space o then Some o else None) (slice_get (openings past) name.serial)
 
 -- ---- how far an exchange has come
 
@@ -62,7 +65,9 @@ kept_at past name = slice_get (filter_map (λ a. keep_in name a.call.what a.repl
 
 -- untried until it is taken, then tried until it is kept, then finished at that time
 abbrev pub progress : List Answered → TableName → Progress
-progress past name = option_map_or (λ time. Finished time) (kept_at past name) (if list_any (λ a. takes name a.call.what a.reply) past then Tried else Untried)
+progress past name =
+    option_map_or (λ time. Finished time) (kept_at past name)
+    (if list_any (λ a. takes name a.call.what a.reply) past then Tried else Untried)
 
 -- the one try is taken while it is untried and not too old
 abbrev pub take_reply : Sizes → ℕ → Opening → Progress → Reply

@@ -70,10 +70,13 @@ with_list lists shard list s = if s == shard then list else lists s
 abbrev pub Stand : Seat → (ℕ → List Entry) → Seat → List Made → List (List Entry) → Type 0
 Stand seat seen new [] [] = Unit {0}
 Stand seat seen new (m ∷ made) (past ∷ places) =
-    StandsBehind seat (seen m.shard) (new.seen m.shard) m past × Stand seat (with_list seen m.shard (past ++ (seat.owner, m.call) ∷ [])) new made places
+    StandsBehind seat (seen m.shard) (new.seen m.shard) m past
+    × Stand seat (with_list seen m.shard (past ++ (seat.owner, m.call) ∷ [])) new made places
 Stand seat seen new [] (past ∷ places) = ⊥
 Stand seat seen new (m ∷ made) [] = ⊥
 
 -- Whatever calls a seat has made, they stand so.
 abbrev pub CallsStand : Type 0
-CallsStand = (old new : Seat) (made : List Made) → All (λ (m : Made). m.shard < old.shards) made → Grows old new made → (places : List (List Entry)) × Stand old old.seen new made places
+CallsStand =
+    (old new : Seat) (made : List Made) → All (λ (m : Made). m.shard < old.shards) made → Grows old new made
+    → (places : List (List Entry)) × Stand old old.seen new made places

@@ -50,7 +50,8 @@ serves Scram Both = false
 
 -- whether this is the nonce that is named, of that space and kind, and not too old
 abbrev pub serves_call : Sizes → ℕ → TableName → NonceKind → ℕ → ℕ → Nonce → Bool
-serves_call sizes shard name kind space now nonce = names_nonce shard name nonce && (nonce.space == space) && serves nonce.kind kind && nat_le (now - nonce.time) sizes.nonce_life
+serves_call sizes shard name kind space now nonce =
+    names_nonce shard name nonce && (nonce.space == space) && serves nonce.kind kind && nat_le (now - nonce.time) sizes.nonce_life
 
 -- ---- how a nonce was used
 
@@ -75,7 +76,8 @@ abbrev pub is_live : Sizes → ℕ → List Answered → TableName → NonceKind
 is_live sizes shard past name kind space now =
     let few_since = nat_lt (length (nonces past) - name.serial - 1) sizes.nonces in
     let few_uses = nat_lt (length (admitted past name)) sizes.uses in
-    option_map_or (λ nonce. serves_call sizes shard name kind space now nonce && few_since && few_uses) (slice_get (nonces past) name.serial) false
+    option_map_or (λ nonce. serves_call sizes shard name kind space now nonce && few_since && few_uses)
+    (slice_get (nonces past) name.serial) false
 
 -- ---- what a use is answered
 

@@ -26,16 +26,23 @@ Fits (Recall sid space) = Unit {0}
 -- the reply of a shard to a call at this time
 abbrev pub reply_to : Sizes → ℕ → List Answered → ℕ → What → Reply
 reply_to sizes shard past now (Issue kind space random) = replies.Issued (length (nonces past))
-reply_to sizes shard past now (Peek nonce space) = if is_live sizes shard past nonce Digest space now then replies.Prime (first_prime past nonce) else replies.Gone
-reply_to sizes shard past now (Use nonce kind space count given) = if is_live sizes shard past nonce kind space now then use_reply (admitted past nonce) (first_prime past nonce) count given else replies.Gone
+reply_to sizes shard past now (Peek nonce space) =
+    if is_live sizes shard past nonce Digest space now then replies.Prime (first_prime past nonce) else replies.Gone
+reply_to sizes shard past now (Use nonce kind space count given) =
+    if is_live sizes shard past nonce kind space now
+    then use_reply (admitted past nonce) (first_prime past nonce) count given else replies.Gone
 reply_to sizes shard past now (Open space random exchange) = replies.Opened (length (openings past))
-reply_to sizes shard past now (Take sid space) = option_map_or (λ o. take_reply sizes now o (progress past sid)) (opening sizes shard past sid space) replies.Gone
-reply_to sizes shard past now (Keep sid space) = option_map_or (λ o. keep_reply (progress past sid)) (opening sizes shard past sid space) replies.Gone
-reply_to sizes shard past now (Recall sid space) = option_map_or (λ o. recall_reply sizes now o (progress past sid)) (opening sizes shard past sid space) replies.Gone
+reply_to sizes shard past now (Take sid space) =
+    option_map_or (λ o. take_reply sizes now o (progress past sid)) (opening sizes shard past sid space) replies.Gone
+reply_to sizes shard past now (Keep sid space) =
+    option_map_or (λ o. keep_reply (progress past sid)) (opening sizes shard past sid space) replies.Gone
+reply_to sizes shard past now (Recall sid space) =
+    option_map_or (λ o. recall_reply sizes now o (progress past sid)) (opening sizes shard past sid space) replies.Gone
 
 -- a call with its time and its reply
 abbrev pub answer : Sizes → ℕ → List Answered → Call → Answered
-answer sizes shard past call = let now = time_at past call.moment in record { call = call; time = now; reply = reply_to sizes shard past now call.what }
+answer sizes shard past call =
+    let now = time_at past call.moment in record { call = call; time = now; reply = reply_to sizes shard past now call.what }
 
 -- the calls of a list with their times and replies, each from those before it
 abbrev pub answered : Sizes → ℕ → List Call → List Answered

@@ -4,7 +4,16 @@ use Rattle.nonce_shard.specs.declared.sizes.Sizes.{Sizes}
 use Rattle.nonce_shard.specs.declared.sizes.TheConstants.{MOST_SHARDS, NONCES, EXCHANGES, NONCE_LIFE, OPEN_LIFE, FINISHED_LIFE, USES}
 
 abbrev pub standard_sizes : Sizes
-standard_sizes = record { shards = MOST_SHARDS; nonces = NONCES; exchanges = EXCHANGES; nonce_life = NONCE_LIFE; open_life = OPEN_LIFE; finished_life = FINISHED_LIFE; uses = USES }
+standard_sizes =
+    record {
+      shards = MOST_SHARDS;
+      nonces = NONCES;
+      exchanges = EXCHANGES;
+      nonce_life = NONCE_LIFE;
+      open_life = OPEN_LIFE;
+      finished_life = FINISHED_LIFE;
+      uses = USES;
+    }
 
 -- the same with one shard
 abbrev pub single_sizes : Sizes

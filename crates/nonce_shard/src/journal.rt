@@ -91,7 +91,11 @@ impl TableSeat for JournalTable {
     fn call(&mut self, shard: u16, call: &Call) -> Result<Reply, Worn>
         requires in_range { shard < 1 }
         requires fits { Fits call.now.what }
-        ensures ok { IfOk result (λ reply. Grows (seat_of self.old) (seat_of self.new) (record { shard = shard; call = call.now; reply = reply } ∷ [])) }
+        ensures ok { IfOk result (λ reply. Grows (seat_of self.old) (seat_of self.new) (record {
+          shard = shard;
+          call = call.now;
+          reply = reply;
+        } ∷ [])) }
         ensures worn { IfErr result (λ w. IsWorn (seat_of self.old) (seat_of self.new) shard w.calls) }
 
         ensures full { IsErr result ↔ (length self.old.calls ≡ self.old.limit) }

@@ -21,6 +21,10 @@ pub trait TableSeat {
     fn call(&mut self, shard: u16, call: &Call) -> Result<Reply, Worn>
         requires in_range { shard < (seat self.old).shards }
         requires fits { Fits call.now.what }
-        ensures ok { IfOk result (λ reply. Grows (seat self.old) (seat self.new) (record { shard = shard; call = call.now; reply = reply } ∷ [])) }
+        ensures ok { IfOk result (λ reply. Grows (seat self.old) (seat self.new) (record {
+          shard = shard;
+          call = call.now;
+          reply = reply;
+        } ∷ [])) }
         ensures worn { IfErr result (λ w. IsWorn (seat self.old) (seat self.new) shard w.calls) };
 }

@@ -44,5 +44,6 @@ sum_of totals = record {
 pub record CountsHistories (sizes : Sizes) (passes : List TablePassFacts) (closed : Closed) : Type 0 where
   pub totals : List Totals
   pub long : length totals ≡ sizes.shards
-  pub each : (s : ℕ) (t : Totals) → slice_get totals s ≡ Some t → t ≡ totals_after (record { number = s; sizes = sizes }) (calls_of (history_of s passes))
+  pub each : (s : ℕ) (t : Totals) → slice_get totals s ≡ Some t
+      → t ≡ totals_after (record { number = s; sizes = sizes }) (calls_of (history_of s passes))
   pub sum : closed ≡ sum_of totals

@@ -57,7 +57,8 @@ pub record ArePassesOf (owner : ℕ) (sizes : Sizes) (passes : List (PassFacts C
   pub each : (s : ℕ) (p : PassFacts Call Setting) → slice_get passes s ≡ Some p → IsPassTo owner sizes s p
 
 -- the pass at this place had its call answered, and no other has changed
-pub record AnswersAt (old : List (PassFacts Call Setting)) (at : ℕ) (call : Call) (reply : Reply) (new : List (PassFacts Call Setting)) : Type 0 where
+pub record AnswersAt (old : List (PassFacts Call Setting)) (at : ℕ) (call : Call) (reply : Reply)
+    (new : List (PassFacts Call Setting)) : Type 0 where
   pub before : PassFacts Call Setting
   pub after : PassFacts Call Setting
   pub was : slice_get old at ≡ Some before

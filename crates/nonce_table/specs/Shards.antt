@@ -17,7 +17,8 @@ pub record IsOpening (turns : TableFacts Setting) (opening : PassFacts Call Sett
 -- the opening passes, one to the turns of each shard in their order
 pub record AreOpenings (turns : List (TableFacts Setting)) (openings : List (PassFacts Call Setting)) : Type 0 where
   pub long : length openings ≡ length turns
-  pub each : (s : ℕ) (t : TableFacts Setting) (p : PassFacts Call Setting) → slice_get turns s ≡ Some t → slice_get openings s ≡ Some p → IsOpening t p
+  pub each : (s : ℕ) (t : TableFacts Setting) (p : PassFacts Call Setting) → slice_get turns s ≡ Some t
+      → slice_get openings s ≡ Some p → IsOpening t p
 
 -- the opening pass to these turns, from which so many passes were split and into which none was joined
 abbrev pub opening_of : ℕ → TableFacts Setting → PassFacts Call Setting

@@ -22,7 +22,8 @@ abbrev pub table_facts : Sizes → List (TableFacts Setting) → ℕ → NonceTa
 table_facts sizes turns made = record { sizes = sizes; names = names_of turns; made = made }
 
 -- the turns of the shards of a table, and the opening pass to each, from which so many passes were made
-pub record AreShards (sizes : Sizes) (made : ℕ) (turns : List (TableFacts Setting)) (openings : List (PassFacts Call Setting)) : Type 0 where
+pub record AreShards (sizes : Sizes) (made : ℕ) (turns : List (TableFacts Setting))
+    (openings : List (PassFacts Call Setting)) : Type 0 where
   pub valid : AreValid sizes
   pub long : length turns ≡ sizes.shards
   pub few : made ≤ MOST_PASSES

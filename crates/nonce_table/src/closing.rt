@@ -40,7 +40,8 @@ impl Closed {
 
     /// Adds the totals of one shard.
     pub(crate) fn add(&mut self, totals: &Totals)
-        requires { (self.old.calls + totals.now.calls < 2 ^ 128) × (self.old.issued + totals.now.issued < 2 ^ 128) × (self.old.admitted + totals.now.admitted < 2 ^ 128) × (self.old.repeated + totals.now.repeated < 2 ^ 128) }
+        requires { (self.old.calls + totals.now.calls < 2 ^ 128) × (self.old.issued + totals.now.issued < 2 ^ 128)
+            × (self.old.admitted + totals.now.admitted < 2 ^ 128) × (self.old.repeated + totals.now.repeated < 2 ^ 128) }
         ensures { self.new ≡ record {
           calls = self.old.calls + totals.now.calls;
           issued = self.old.issued + totals.now.issued;

@@ -19,9 +19,11 @@ pub trait TableObject: Drop {
     fn apply(&mut self, call: &Call) -> Reply
         requires fits { Fits call.now.what }
         requires stands { (past : List Call) × stands_for self.old past × (length past < MOST_CALLS) }
-        ensures reply { (past : List Call) → stands_for self.old past → length past < MOST_CALLS → result ≡ reply_after (setting self.old) past call.now }
+        ensures reply { (past : List Call) → stands_for self.old past → length past < MOST_CALLS
+            → result ≡ reply_after (setting self.old) past call.now }
         ensures setting { setting self.new ≡ setting self.old }
-        ensures stands { (past : List Call) → stands_for self.old past → length past < MOST_CALLS → stands_for self.new (past ++ call.now ∷ []) };
+        ensures stands { (past : List Call) → stands_for self.old past → length past < MOST_CALLS
+            → stands_for self.new (past ++ call.now ∷ []) };
 
     /// The totals of its calls.
     fn totals(&self) -> Totals

@@ -66,7 +66,11 @@ impl<T: TableObject> TablePass<T> {
         requires in_range { shard < self.old.sizes.shards }
         requires of { IsAt turns.now self.old }
         requires fits { Fits call.now.what }
-        ensures ok { IfOk result (λ reply. Grows (seat_of self.old) (seat_of self.new) (record { shard = shard; call = call.now; reply = reply } ∷ [])) }
+        ensures ok { IfOk result (λ reply. Grows (seat_of self.old) (seat_of self.new) (record {
+          shard = shard;
+          call = call.now;
+          reply = reply;
+        } ∷ [])) }
         ensures worn { IfErr result (λ w. IsWorn (seat_of self.old) (seat_of self.new) shard w.calls) }
         ensures table { self.new.table ≡ self.old.table }
         ensures sizes { self.new.sizes ≡ self.old.sizes }

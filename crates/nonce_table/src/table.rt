@@ -53,7 +53,8 @@ impl NonceTable {
 fn open_shards(alloc: Global, sizes: &Sizes) -> Result<Vec<Shard>, OutOfMemory>
     requires { AreValid sizes.now }
     ensures long { IfOk result (λ shards. length shards.items ≡ sizes.now.shards) }
-    ensures each { IfOk result (λ shards. (k : ℕ) (o : Shard) → slice_get shards.items k ≡ Some o → (setting o ≡ record { number = k; sizes = sizes.now }) × StandsFor o []) }
+    ensures each { IfOk result (λ shards. (k : ℕ) (o : Shard) → slice_get shards.items k ≡ Some o
+        → (setting o ≡ record { number = k; sizes = sizes.now }) × StandsFor o []) }
 {
     let mut shards = Vec::with_capacity(alloc, sizes.shards as usize)?;
     for number in 0..sizes.shards {
@@ -71,7 +72,8 @@ impl<T: TableObject> NonceTable<T> {
     ) -> Result<NonceTable<T>, OutOfMemory>
         requires valid { AreValid sizes.now }
         requires long { length objects.items ≡ sizes.now.shards }
-        requires each { (k : ℕ) (o : T) → slice_get objects.items k ≡ Some o → (T.setting o ≡ record { number = k; sizes = sizes.now }) × T.stands_for o [] }
+        requires each { (k : ℕ) (o : T) → slice_get objects.items k ≡ Some o
+            → (T.setting o ≡ record { number = k; sizes = sizes.now }) × T.stands_for o [] }
         ensures sizes { IfOk result (λ t. t.sizes ≡ sizes.now) }
         ensures made { IfOk result (λ t. t.made ≡ 0) }
     {
@@ -102,7 +104,8 @@ impl<T: TableObject> NonceTable<T> {
         requires some { 1 ≤ n }
         requires few { self.old.made + n ≤ MOST_PASSES }
         ensures number { IfOk result (λ passes. length passes.items ≡ n) }
-        ensures new { IfOk result (λ passes. (k : ℕ) (p : TablePassFacts) → slice_get passes.items k ≡ Some p → p ≡ new_pass self.old (self.old.made + 1 + k)) }
+        ensures new { IfOk result (λ passes. (k : ℕ) (p : TablePassFacts) → slice_get passes.items k ≡ Some p
+            → p ≡ new_pass self.old (self.old.made + 1 + k)) }
         ensures of { IfOk result (λ passes. All (λ p. IsOf self.new p) passes.items) }
         ensures table { OnOk result (self.new ≡ record (self.old) { made = self.old.made + n }) }
         ensures refused { OnErr result (self.new ≡ self.old) }

@@ -72,7 +72,8 @@ impl<T: TableObject> Turns<T> {
         requires openings { AreOpenings self.now openings.old.items }
         requires pass { IsAt self.now pass }
         ensures openings { AreOpenings self.now openings.new.items }
-        ensures each { (s : ℕ) (x : PassFacts Call Setting) → slice_get openings.old.items s ≡ Some x → slice_get openings.new.items s ≡ Some (joined_at s x pass) }
+        ensures each { (s : ℕ) (x : PassFacts Call Setting) → slice_get openings.old.items s ≡ Some x
+            → slice_get openings.new.items s ≡ Some (joined_at s x pass) }
     {
         let shards = &self.shards;
         let mut s = 0;

@@ -39,7 +39,8 @@ ContentsPass (FileReplaced name bytes ending ∷ events) old new = ContentsPass 
 abbrev pub FaultsPass : List FileEvent → ℕ → ℕ → Type 0
 FaultsPass [] old new = new ≡ old
 FaultsPass (FileRead name answer ∷ events) old new = (then : ℕ) × ReadRose answer old then × FaultsPass events then new
-FaultsPass (FileReplaced name bytes ending ∷ events) old new = (then : ℕ) × ReplaceRose (replaced_by ending) old then × FaultsPass events then new
+FaultsPass (FileReplaced name bytes ending ∷ events) old new =
+    (then : ℕ) × ReplaceRose (replaced_by ending) old then × FaultsPass events then new
 
 -- A call that found no memory is no event.
 abbrev pub IsSound : FileEvent → Type 0

@@ -13,6 +13,7 @@ passed_none u = record { dial = dial_none u.dial; table = table_none u.table }
 
 pub passed_then : (u v w : Outside) (xs ys : List (Event DialEvent)) → Passed u v xs → Passed v w ys → Passed u w (xs ++ ys)
 passed_then u v w xs ys p q = record {
-  dial = subst (λ (l : List DialEvent). DialPassed u.dial w.dial l) (sym (behind_in-append xs ys)) (dial_then u.dial v.dial w.dial (behind_in xs) (behind_in ys) p.dial q.dial);
+  dial = subst (λ (l : List DialEvent). DialPassed u.dial w.dial l) (sym (behind_in-append xs ys))
+      (dial_then u.dial v.dial w.dial (behind_in xs) (behind_in ys) p.dial q.dial);
   table = table_join u.table v.table w.table xs ys p.table q.table;
 }

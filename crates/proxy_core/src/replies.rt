@@ -96,7 +96,8 @@ fn pass_back(
 ) -> Result<Reply, OutOfMemory>
     requires low { 200 ≤ response.status }
     requires high { response.status ≤ 599 }
-    ensures { IfOk result (λ reply. reply ≡ reply_with (incoming_of incoming.now) verdict response.status (passed_lines Way.Back response.fields) response.body) }
+    ensures { IfOk result (λ reply. reply
+        ≡ reply_with (incoming_of incoming.now) verdict response.status (passed_lines Way.Back response.fields) response.body) }
 {
     let lines = passed_lines(alloc, Way::Back, &response.fields)?;
     let Response {

@@ -29,15 +29,19 @@ abbrev pub seat_of : {A N F C W T : Type 0} → A → ProxyServer N F C W T → 
 seat_of accept server = server.seat
 
 -- a worker beside its seat
-abbrev pub state_of : {A N F C W T : Type 0} → (A → Option (List (List ℕ))) → (A → Option Handed) → (A → ℕ) → ProxyWorker A N F C W → T → WorkerState (ProxyServer N F C W T)
+abbrev pub state_of : {A N F C W T : Type 0} → (A → Option (List (List ℕ))) → (A → Option Handed) → (A → ℕ)
+    → ProxyWorker A N F C W → T → WorkerState (ProxyServer N F C W T)
 state_of coming handed faults worker seat = worker_state coming handed faults worker.accept (server_of worker seat)
 
 -- how a proxy serves; its files stay as they are
-abbrev pub proxy_service : {N F C W T : Type 0} → (N → Option Dialled) → (N → Option (List (List ℕ))) → (N → Option Handed) → (N → ℕ) → (N → ℕ)
-    → (C → Option (List ℕ)) → (W → Option (List (List ℕ))) → (W → ℕ) → (T → Seat) → Site → Service Server (Operation Demand) (Event DialEvent) (ProxyServer N F C W T)
+abbrev pub proxy_service : {N F C W T : Type 0} → (N → Option Dialled) → (N → Option (List (List ℕ))) → (N → Option Handed)
+    → (N → ℕ) → (N → ℕ)
+    → (C → Option (List ℕ)) → (W → Option (List (List ℕ))) → (W → ℕ) → (T → Seat) → Site
+    → Service Server (Operation Demand) (Event DialEvent) (ProxyServer N F C W T)
 proxy_service dialled coming handed dial_faults link_faults shown drawn random_faults seat site =
     let at = outside_at dialled coming handed dial_faults link_faults drawn random_faults seat in
-    service_of proxy (λ s. server site (shards_of seat s)) (λ s. shown s.clock) (λ a b events. (b.files ≡ a.files) × Passed (at a) (at b) events)
+    service_of proxy (λ s. server site (shards_of seat s)) (λ s. shown s.clock)
+    (λ a b events. (b.files ≡ a.files) × Passed (at a) (at b) events)
     (λ a b. LackedBy (at a).table (at b).table) (λ a b result. Unit {0})
 
 -- The seat notes of one of its shards that this is at its limit.

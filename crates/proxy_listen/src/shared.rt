@@ -134,9 +134,11 @@ where
 
     // Neither comes without its cause at one of the places.
     ensures accept_fault { result.0 ≡ Ok Finish.AcceptFault → (k : ℕ) × (k < vec_len workers)
-        × ((w : ProxyWorker A N F C W) → Rose (A.faults (slice_index_or workers.items k w).accept) (A.faults (slice_index_or result.1.items k w).accept)) }
+        × ((w : ProxyWorker A N F C W)
+        → Rose (A.faults (slice_index_or workers.items k w).accept) (A.faults (slice_index_or result.1.items k w).accept)) }
     ensures worn { result.0 ≡ Ok Finish.Worn → (k : ℕ) × (k < vec_len workers)
-        × ((t : TablePassFacts) → NotesLimit (pass_seat (slice_index_or passes.items k t)) (pass_seat (slice_index_or result.2.items k t))) }
+        × ((t : TablePassFacts)
+        → NotesLimit (pass_seat (slice_index_or passes.items k t)) (pass_seat (slice_index_or result.2.items k t))) }
 
     ensures of_table { All (λ pass. IsOf table.now pass) result.2.items }
     ensures refused_workers { OnErr result.0 (result.1.items ≡ workers.items) }

@@ -38,19 +38,28 @@ words_in-append (Called shard call reply ∷ xs) ys = words_in-append xs ys
 
 pub calls_in-append : (xs ys : List Finding) → calls_in (xs ++ ys) ≡ calls_in xs ++ calls_in ys
 calls_in-append [] ys = refl
-calls_in-append (Called shard call reply ∷ xs) ys = ap (λ (l : List Made). record { shard = shard; call = call; reply = reply } ∷ l) (calls_in-append xs ys)
+calls_in-append (Called shard call reply ∷ xs) ys =
+    ap (λ (l : List Made). record { shard = shard; call = call; reply = reply } ∷ l) (calls_in-append xs ys)
 calls_in-append (CredentialsRead lines credentials ∷ xs) ys = calls_in-append xs ys
 calls_in-append (Drew words ∷ xs) ys = calls_in-append xs ys
 
 -- ---- the table and its source of words
 
 pub table_none : (u : TableState) → TablePassed u u []
-table_none u = record { sound = All-nil IsSound; drawn = Adds_none u.drawn; later = later_none u.faults; calls = grows_none u.seat; within = All-nil (λ (made : Made). made.shard < u.seat.shards) }
+table_none u =
+    record {
+      sound = All-nil IsSound;
+      drawn = Adds_none u.drawn;
+      later = later_none u.faults;
+      calls = grows_none u.seat;
+      within = All-nil (λ (made : Made). made.shard < u.seat.shards);
+    }
 
 pub table_then : (u v w : TableState) (xs ys : List Finding) → TablePassed u v xs → TablePassed v w ys → TablePassed u w (xs ++ ys)
 table_then u v w xs ys p q = record {
   sound = All-append IsSound xs ys p.sound q.sound;
-  drawn = subst (λ (l : List (List ℕ)). Adds u.drawn w.drawn l) (sym (words_in-append xs ys)) (Adds_trans u.drawn v.drawn w.drawn (words_in xs) (words_in ys) p.drawn q.drawn);
+  drawn = subst (λ (l : List (List ℕ)). Adds u.drawn w.drawn l) (sym (words_in-append xs ys))
+      (Adds_trans u.drawn v.drawn w.drawn (words_in xs) (words_in ys) p.drawn q.drawn);
   later = later_trans u.faults v.faults w.faults p.later q.later;
   calls = subst (λ (l : List Made). Grows u.seat w.seat l) (sym (calls_in-append xs ys)) (grows_then p.calls q.calls);
   within =
@@ -60,13 +69,17 @@ table_then u v w xs ys p q = record {
 }
 
 -- the same over all events of requests
-pub table_join : {E : Type 0} (u v w : TableState) (xs ys : List (Event E)) → TablePassed u v (found_in xs) → TablePassed v w (found_in ys) → TablePassed u w (found_in (xs ++ ys))
-table_join u v w xs ys p q = subst (λ (l : List Finding). TablePassed u w l) (sym (found_in-append xs ys)) (table_then u v w (found_in xs) (found_in ys) p q)
+pub table_join : {E : Type 0} (u v w : TableState) (xs ys : List (Event E)) → TablePassed u v (found_in xs)
+    → TablePassed v w (found_in ys) → TablePassed u w (found_in (xs ++ ys))
+table_join u v w xs ys p q =
+    subst (λ (l : List Finding). TablePassed u w l) (sym (found_in-append xs ys)) (table_then u v w (found_in xs) (found_in ys) p q)
 
-lacks_later : (u v w : TableState) (found : List Finding) → TablePassed u v found → (lack : Lack) (inquiry : Inquiry) → LacksBy v w lack inquiry → LacksBy u w lack inquiry
+lacks_later : (u v w : TableState) (found : List Finding) → TablePassed u v found → (lack : Lack) (inquiry : Inquiry)
+    → LacksBy v w lack inquiry → LacksBy u w lack inquiry
 lacks_later u v w found p Random inquiry q = (q.0, rose_later u.faults v.faults w.faults p.later q.1)
 lacks_later u v w found p (Worn calls) inquiry q =
     (q.0, q.1, q.2, subst (λ (n : ℕ). q.0 < n) p.calls.same.shards q.3, q.4, q.5 ∙ p.calls.same.limit)
 
-pub lacked_later : {Q : Type 0} (u v w : TableState) (found : List Finding) → TablePassed u v found → (lack : Lack) (operation : Operation Q) → LackedBy v w lack operation → LackedBy u w lack operation
+pub lacked_later : {Q : Type 0} (u v w : TableState) (found : List Finding) → TablePassed u v found
+    → (lack : Lack) (operation : Operation Q) → LackedBy v w lack operation → LackedBy u w lack operation
 lacked_later u v w found p lack operation q = (q.0, q.1, lacks_later u v w found p lack q.0 q.2)

@@ -57,7 +57,8 @@ abbrev pub bare_of : BareParts → List ℕ → List ℕ
 bare_of parts rest = 110 ∷ 61 ∷ (escaped parts.name ++ 44 ∷ 114 ∷ 61 ∷ (parts.nonce ++ rest))
 
 abbrev pub is_bare_of : List ℕ → BareParts → List ℕ → Bool
-is_bare_of bare parts rest = bytes_eq bare (bare_of parts rest) && are_extensions rest && some_of is_printable parts.name && some_of is_nonce_byte parts.nonce
+is_bare_of bare parts rest =
+    bytes_eq bare (bare_of parts rest) && are_extensions rest && some_of is_printable parts.name && some_of is_nonce_byte parts.nonce
 
 abbrev pub are_short : List ℕ → BareParts → Bool
 are_short bare parts = nat_le (length bare) BARE_LIMIT && nat_le (length parts.name) NAME_LIMIT && nat_le (length parts.nonce) NONCE_LIMIT
@@ -68,4 +69,6 @@ first_of bare parts = record { flag = N; name = parts.name; nonce = parts.nonce;
 
 -- what a client-first that is taken says, by what stands behind its flag n
 unfoldable pub first_behind : List ℕ → Option FirstParts
-first_behind bare = if is_bare_of bare (parts_in bare) (rest_in bare) && are_short bare (parts_in bare) then Some (first_of bare (parts_in bare)) else None
+first_behind bare =
+    if is_bare_of bare (parts_in bare) (rest_in bare) && are_short bare (parts_in bare)
+    then Some (first_of bare (parts_in bare)) else None

@@ -23,9 +23,12 @@ Fits text = length text ≤ FLAG_LENGTH + BARE_LIMIT
 abbrev pub IsTooLong : List ℕ → ScramField → ℕ → Type 0
 IsTooLong text Bare limit = (limit ≡ BARE_LIMIT) × (FLAG_LENGTH + BARE_LIMIT < length text)
 IsTooLong text First limit = ⊥
-IsTooLong text Name limit = (limit ≡ NAME_LIMIT) × Fits text × ((parts : FirstParts) × SpellsClientFirst text parts × (NAME_LIMIT < length parts.name))
+IsTooLong text Name limit =
+    (limit ≡ NAME_LIMIT) × Fits text × ((parts : FirstParts) × SpellsClientFirst text parts × (NAME_LIMIT < length parts.name))
 IsTooLong text Nonce limit =
-    (limit ≡ NONCE_LIMIT) × Fits text × ((parts : FirstParts) × SpellsClientFirst text parts × (length parts.name ≤ NAME_LIMIT) × (NONCE_LIMIT < length parts.nonce))
+    (limit ≡ NONCE_LIMIT) × Fits text
+    × ((parts : FirstParts) × SpellsClientFirst text parts × (length parts.name ≤ NAME_LIMIT)
+    × (NONCE_LIMIT < length parts.nonce))
 
 -- when each refusal comes
 abbrev pub RefusesClientFirst : List ℕ → ScramError → Type 0

@@ -19,7 +19,8 @@ pub record GoesInto (text : List ℕ) (at : ℕ) : Type 0 where
   pub byte : ℕ
   pub plain : is_printable byte ≡ true
   pub lives : front ++ rest ≡ escape byte
-  pub stuck : (b other : ℕ) (left more behind : List ℕ) → back ≡ b ∷ left → is_printable other ≡ true → front ++ b ∷ more ≡ escape other ++ behind → ⊥
+  pub stuck : (b other : ℕ) (left more behind : List ℕ) → back ≡ b ∷ left → is_printable other ≡ true
+      → front ++ b ∷ more ≡ escape other ++ behind → ⊥
 
 -- bytes of a name stand first in the text, and then no further one
 pub record BeginsName (text name more : List ℕ) : Type 0 where

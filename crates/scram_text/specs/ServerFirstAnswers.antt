@@ -33,5 +33,6 @@ RefusesServerFirst text (NotMessage at) = (length text ≤ FIRST_LIMIT) × (IsMa
 RefusesServerFirst text OutOfMemory = Unit {0}
 
 abbrev pub AnswersServerFirst : List ℕ → Result ServerFirst ScramError → Type 0
-AnswersServerFirst text (Ok message) = SpellsServerFirst text (server_first_parts message) × (message.text ≡ text) × (length text ≤ FIRST_LIMIT)
+AnswersServerFirst text (Ok message) =
+    SpellsServerFirst text (server_first_parts message) × (message.text ≡ text) × (length text ≤ FIRST_LIMIT)
 AnswersServerFirst text (Err error) = RefusesServerFirst text error

@@ -46,7 +46,8 @@ impl ClientFinal {
         proof: &[u8; DIGEST_LENGTH],
     ) -> Result<ClientFinal, OutOfMemory>
         requires nonce { some_of is_nonce_byte nonce.now ≡ true }
-        ensures { IfOk result (λ m. parts_of m ≡ record { flag = flag; nonce = nonce.now; without = without_text flag nonce.now; proof = proof.now }) }
+        ensures { IfOk result (λ m. parts_of m
+            ≡ record { flag = flag; nonce = nonce.now; without = without_text flag nonce.now; proof = proof.now }) }
     {
         Ok(ClientFinal {
             flag,

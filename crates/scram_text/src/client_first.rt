@@ -44,7 +44,8 @@ impl ClientFirst {
         requires short_name { length name.now ≤ NAME_LIMIT }
         requires nonce { some_of is_nonce_byte nonce.now ≡ true }
         requires short_nonce { length nonce.now ≤ NONCE_LIMIT }
-        ensures { IfOk result (λ m. parts_of m ≡ record { flag = flag; name = name.now; nonce = nonce.now; bare = bare_text name.now nonce.now }) }
+        ensures { IfOk result (λ m. parts_of m
+            ≡ record { flag = flag; name = name.now; nonce = nonce.now; bare = bare_text name.now nonce.now }) }
     {
         let mut bare = Octets::of(alloc, b"n=")?;
         push_written(&mut bare, name)?;

@@ -27,7 +27,8 @@ impl ReauthNonce {
     /// The nonce, where the bytes are one. The count is the longest run of digits before the `sr`.
     pub fn read(alloc: Global, r: &[u8]) -> Result<Option<ReauthNonce>, OutOfMemory>
         ensures some { IfOk result (λ found. IfSome found (λ n. IsReauth r.now n.client n.count n.sr)) }
-        ensures none { IfOk result (λ found. IfNone found ((client : List ℕ) (count : ℕ) (sr : List ℕ) → IsReauth r.now client count sr → ⊥)) }
+        ensures none { IfOk result (λ found. IfNone found ((client : List ℕ) (count : ℕ) (sr : List ℕ)
+            → IsReauth r.now client count sr → ⊥)) }
     {
         let Some((client, count, sr)) = reauth_parts(r) else {
             return Ok(None);

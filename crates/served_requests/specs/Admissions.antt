@@ -79,7 +79,8 @@ steps_of r = steps_by r.decided
 -- exactly where its credentials are valid, and one that ends an exchange of SCRAM-SHA-256 or uses a finished one again exactly
 -- where it proves its user. No other is, nor one of Digest without a use of its count that the table answered Fresh, nor one of
 -- SCRAM-SHA-256 without its try and a keeping, or a recall and such a use.
-pub record IsRightlyDecided {Q E : Type 0} (role : Role) (want_of : E → Q) (course : Course Q E) (sizes : Sizes) (s : Server) (t : Incoming) (d : Deciding E) (response : Response) : Type 0 where
+pub record IsRightlyDecided {Q E : Type 0} (role : Role) (want_of : E → Q) (course : Course Q E) (sizes : Sizes)
+    (s : Server) (t : Incoming) (d : Deciding E) (response : Response) : Type 0 where
   pub behind : AreWanted course want_of s t d.verdict [] d.behind
   pub answered : course s t d.verdict d.behind ≡ Says response s
   pub exactly : (space : Space) (c : Candidate) → IsWellFormed (question_of role s t d.credentials) space c
@@ -89,7 +90,8 @@ pub record IsRightlyDecided {Q E : Type 0} (role : Role) (want_of : E → Q) (co
   pub no_other : (user : List ℕ) → Admits user d.verdict → IsAdmitted sizes (question_of role s t d.credentials) user d.steps
 
 -- It was decided where it has a course, and else answered at once.
-abbrev pub IsAnsweredBy : {Q E : Type 0} → Conduct Q E → Sizes → Server → Incoming → Option (Deciding E) → Option (Course Q E) → Response → Type 0
+abbrev pub IsAnsweredBy : {Q E : Type 0} → Conduct Q E → Sizes → Server → Incoming → Option (Deciding E)
+    → Option (Course Q E) → Response → Type 0
 IsAnsweredBy c sizes s t None None response = response ≡ c.at_once t
 IsAnsweredBy c sizes s t (Some d) (Some course) response = IsRightlyDecided c.role c.want_of course sizes s t d response
 IsAnsweredBy c sizes s t None (Some course) response = ⊥
@@ -152,5 +154,9 @@ pub record ServesRequests {Q E : Type 0} (c : Conduct Q E) (old new : Seat) (lef
 
 -- Whatever a server's session over an account tells: each of its requests that was answered was admitted exactly where it was to be.
 abbrev pub AdmitsRightly : Type 0 → Type 0 → Type 0
-AdmitsRightly Q E = (m : Machine Server (Operation Q) (Event E)) (c : Conduct Q E) → Follows m c → (before now : TableState) (left left' : Option (List ℕ)) (s s' : Server) (a : Account (Event E)) (result : Result Served ServeError)
-    → Consumes left left' a.input → TablePassed before now (found_in a.events) → Tells m (LackedBy before now) s s' left left' a result → ServesRequests c before.seat now.seat left' s a result
+AdmitsRightly Q E =
+    (m : Machine Server (Operation Q) (Event E)) (c : Conduct Q E) → Follows m c
+    → (before now : TableState) (left left' : Option (List ℕ)) (s s' : Server) (a : Account (Event E))
+    (result : Result Served ServeError)
+    → Consumes left left' a.input → TablePassed before now (found_in a.events)
+    → Tells m (LackedBy before now) s s' left left' a result → ServesRequests c before.seat now.seat left' s a result

@@ -27,6 +27,8 @@ server_in (Says response s) = s
 
 -- The machine goes about each request so, and no course changes the server.
 pub record Follows {Q E : Type 0} (m : Machine Server (Operation Q) (Event E)) (c : Conduct Q E) : Type 0 where
-  pub moves : (s : Server) (t : Incoming) (events : List (Event E)) → m.asked s t events ≡ move_on c.role (c.at_once t) (c.course t) s t events
+  pub moves : (s : Server) (t : Incoming) (events : List (Event E))
+      → m.asked s t events ≡ move_on c.role (c.at_once t) (c.course t) s t events
   pub tells : (event : Event E) → m.ask_of event ≡ operation_of c.want_of event
-  pub keeps : (course : Course Q E) (s : Server) (t : Incoming) (verdict : Verdict) (done : List E) → c.course t ≡ Some course → server_in (course s t verdict done) ≡ s
+  pub keeps : (course : Course Q E) (s : Server) (t : Incoming) (verdict : Verdict) (done : List E)
+      → c.course t ≡ Some course → server_in (course s t verdict done) ≡ s

@@ -15,7 +15,8 @@ is_visible b = nat_le 33 b && nat_le b 126
 -- a prefix is `/`, or visible bytes that begin with `/` and don't end in it
 abbrev pub is_prefix : List ℕ → Bool
 is_prefix prefix =
-    bytes_eq prefix (47 ∷ []) || (starts_with nat_eq prefix (47 ∷ []) && (not (ends_with nat_eq prefix (47 ∷ [])) && list_all is_visible prefix))
+    bytes_eq prefix (47 ∷ []) || (starts_with nat_eq prefix (47 ∷ [])
+    && (not (ends_with nat_eq prefix (47 ∷ [])) && list_all is_visible prefix))
 
 abbrev pub mode_name : Mode → List ℕ
 mode_name Open = codes "none"

@@ -62,12 +62,14 @@ IsNoSpace before rest = (256 ≤ length before) ⊎ HasNoLine rest
 -- the first fault of the text is that this line is none that may stand there
 abbrev pub IsBadLine : List ℕ → ℕ → Type 0
 IsBadLine text line =
-    ((line ≡ 1) × HasNoHeader text) ⊎ ((before : List Space) × (rest : List ℕ) × Reaches text line before rest × (rest ≢ []) × IsNoSpace before rest)
+    ((line ≡ 1) × HasNoHeader text)
+    ⊎ ((before : List Space) × (rest : List ℕ) × Reaches text line before rest × (rest ≢ []) × IsNoSpace before rest)
 
 -- the first fault of the text is that this line has a prefix that stood before
 abbrev pub IsSamePrefix : List ℕ → ℕ → Type 0
 IsSamePrefix text line =
-    (before : List Space) × (space : Space) × (more : List ℕ) × Reaches text line before (space_line space ++ more) × (length before < 256) × IsLine space × (has_prefix space.prefix before ≡ true)
+    (before : List Space) × (space : Space) × (more : List ℕ) × Reaches text line before (space_line space ++ more)
+    × (length before < 256) × IsLine space × (has_prefix space.prefix before ≡ true)
 
 -- the first fault of the text is this one
 abbrev pub IsFault : List ℕ → SpacesError → Type 0

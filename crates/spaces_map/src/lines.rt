@@ -26,7 +26,8 @@ fn ends_in_slash(text: &[u8]) -> bool
 
 /// Whether the text begins with `/`, doesn't end in it, and has visible bytes alone.
 fn is_path(text: &[u8]) -> bool
-    ensures { result ≡ (starts_with nat_eq text.now (47 ∷ []) && (not (ends_with nat_eq text.now (47 ∷ [])) && list_all is_visible text.now)) }
+    ensures { result ≡ (starts_with nat_eq text.now (47 ∷ [])
+        && (not (ends_with nat_eq text.now (47 ∷ [])) && list_all is_visible text.now)) }
 {
     text.starts_with(b"/") && !ends_in_slash(text) && has_visible_bytes(text)
 }
@@ -86,7 +87,8 @@ struct Asked {
 fn asked_in(alloc: Global, text: &[u8]) -> Result<Option<Asked>, OutOfMemory>
     ensures text { IfOk result (λ found. IfSome found (λ asked. text.now ≡ kinds_text asked.offers ++ 32 ∷ asked.realm)) }
     ensures form { IfOk result (λ found. IfSome found (λ asked. IsAsked asked.offers asked.realm)) }
-    ensures none { IfOk result (λ found. IfNone found ((offers : List OfferValue) → (realm : List ℕ) → IsAsked offers realm → text.now ≢ kinds_text offers ++ 32 ∷ realm)) }
+    ensures none { IfOk result (λ found. IfNone found ((offers : List OfferValue) → (realm : List ℕ) → IsAsked offers realm
+        → text.now ≢ kinds_text offers ++ 32 ∷ realm)) }
 {
     let Some((kinds, realm)) = cut_at(text, b' ') else {
         return Ok(None);
@@ -105,7 +107,8 @@ fn asked_in(alloc: Global, text: &[u8]) -> Result<Option<Asked>, OutOfMemory>
 fn terms_in(alloc: Global, text: &[u8]) -> Result<Option<Terms>, OutOfMemory>
     ensures text { IfOk result (λ found. IfSome found (λ terms. text.now ≡ terms_text terms.mode terms.offers terms.realm)) }
     ensures form { IfOk result (λ found. IfSome found (λ terms. IsTerms terms.mode terms.offers terms.realm)) }
-    ensures none { IfOk result (λ found. IfNone found ((mode : ModeValue) → (offers : List OfferValue) → (realm : List ℕ) → IsTerms mode offers realm → text.now ≢ terms_text mode offers realm)) }
+    ensures none { IfOk result (λ found. IfNone found ((mode : ModeValue) → (offers : List OfferValue) → (realm : List ℕ)
+        → IsTerms mode offers realm → text.now ≢ terms_text mode offers realm)) }
 {
     let Some((name, rest)) = cut_at(text, b' ') else {
         return Ok(open_terms(alloc, text));

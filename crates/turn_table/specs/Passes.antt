@@ -44,7 +44,8 @@ module _ {C S : Type 0} where
   }
 
   -- A pass had its call answered: at its turn the history, `before`, began with what it had seen and went on with calls of others alone. The reply is the object's to the call after those, and now the pass has seen them and its call.
-  pub record Answers {R : Type 0} (reply_after : S → List C → C → R) (old : PassFacts C S) (call : C) (reply : R) (new : PassFacts C S) : Type 0 where
+  pub record Answers {R : Type 0} (reply_after : S → List C → C → R) (old : PassFacts C S) (call : C) (reply : R)
+      (new : PassFacts C S) : Type 0 where
     pub before : List (Entry C)
     pub setting : S
     pub own : GrownByOthers before old.owner old.seen

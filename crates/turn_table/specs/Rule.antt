@@ -45,7 +45,8 @@ module _ {C S : Type 0} where
 
   -- no two views with a name have one owner
   abbrev pub AreApart : List (View C S) → Type 0
-  AreApart views = (i j : ℕ) (v w : View C S) → get_elem? views i ≡ some v → get_elem? views j ≡ some w → v.named ≡ true → w.named ≡ true → v.owner ≡ w.owner → i ≡ j
+  AreApart views = (i j : ℕ) (v w : View C S) → get_elem? views i ≡ some v → get_elem? views j ≡ some w → v.named ≡ true
+      → w.named ≡ true → v.owner ≡ w.owner → i ≡ j
 
 -- D is the object, C its calls, S its setting
 module _ {D C S : Type 0} where
@@ -58,7 +59,8 @@ module _ {D C S : Type 0} where
   IsOut homes views = (homes ≡ none ∷ []) × (id : ℕ) × (v : View C S) × (get_elem? views id ≡ some v) × (v.named ≡ true) × IsHolding v.turn
 
   -- what holds of a view with a name. The opening pass's counts are the table's
-  pub record IsOfPass (st : S) (log : List (Entry C)) (served : ℕ) (queue : List ℕ) (homes : List (Slot D)) (made : ℕ) (kept : List (ℕ × List (Entry C))) (w : View C S) : Type 0 where
+  pub record IsOfPass (st : S) (log : List (Entry C)) (served : ℕ) (queue : List ℕ) (homes : List (Slot D)) (made : ℕ)
+      (kept : List (ℕ × List (Entry C))) (w : View C S) : Type 0 where
     pub owner : w.owner ≤ made
     pub not_joined : Lacks w.owner (owners_of kept)
     pub setting : w.setting ≡ Some st

@@ -15,10 +15,12 @@ module _ {D C S : Type 0} where
 
   -- a pass that waits has the turn exactly where its number is served
   abbrev pub Watched : Me (Option D) (View C S) → ℕ → Me (Option D) (View C S) → Type 0
-  Watched m found w = (n : ℕ) → m.0.turn ≡ Waiting n → (found ≡ n % 2 ^ 64 → w ≡ (record (m.0) { turn = Ready }, m.1)) × (found ≢ n % 2 ^ 64 → w ≡ m)
+  Watched m found w = (n : ℕ) → m.0.turn ≡ Waiting n
+      → (found ≡ n % 2 ^ 64 → w ≡ (record (m.0) { turn = Ready }, m.1)) × (found ≢ n % 2 ^ 64 → w ≡ m)
 
   -- the pass that has the turn holds the object now, which stands for a history of the number of calls found
-  pub record Took (stands : D → List C → Type 0) (setting : D → S) (m : Me (Option D) (View C S)) (found : ℕ) (w : Me (Option D) (View C S)) : Type 0 where
+  pub record Took (stands : D → List C → Type 0) (setting : D → S) (m : Me (Option D) (View C S)) (found : ℕ)
+      (w : Me (Option D) (View C S)) : Type 0 where
     pub object : D
     pub log : List (Entry C)
     pub long : length log ≡ found
@@ -54,7 +56,8 @@ module _ {D C S : Type 0} where
   -- the pass may end its turn: it never took the object, or it gave back one that stands for the history
   abbrev pub CanPassOn : (D → List C → Type 0) → (D → S) → Me (Option D) (View C S) → Type 0
   CanPassOn stands setting m = ((m.0.turn ≡ Ready) × (m.1 ≡ []))
-      ⊎ ((o : D) × (l : List (Entry C)) × (m.0.turn ≡ Holding l) × (m.1 ≡ (0, Some o) ∷ []) × stands o (calls_in l) × (m.0.setting ≡ Some (setting o)))
+      ⊎ ((o : D) × (l : List (Entry C)) × (m.0.turn ≡ Holding l) × (m.1 ≡ (0, Some o) ∷ []) × stands o (calls_in l)
+      × (m.0.setting ≡ Some (setting o)))
 
   -- the pass has ended its turn, and nothing is out with it
   abbrev pub Passed : Me (Option D) (View C S) → Me (Option D) (View C S) → Type 0
@@ -62,4 +65,5 @@ module _ {D C S : Type 0} where
 
   -- the lists that were joined are of one history
   abbrev pub Looked : Me (Option D) (View C S) → Me (Option D) (View C S) → Type 0
-  Looked m w = (w ≡ (record (m.0) { was = m.0.seen; heard = [] }, m.1)) × GrownByOthers m.0.seen m.0.owner m.0.was × BeginsWith m.0.seen m.0.heard
+  Looked m w = (w ≡ (record (m.0) { was = m.0.seen; heard = [] }, m.1)) × GrownByOthers m.0.seen m.0.owner m.0.was
+      × BeginsWith m.0.seen m.0.heard

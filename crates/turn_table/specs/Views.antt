@@ -9,7 +9,18 @@ use Rattle.turn_table.specs.Passes.{PassFacts}
 module _ {C S : Type 0} where
   -- the view of the opening pass
   abbrev pub first_view : S → View C S
-  first_view setting = record { named = true; owner = 0; setting = Some setting; seen = []; was = []; heard = []; made = 0; kept = []; noted = 0; turn = Idle }
+  first_view setting = record {
+    named = true;
+    owner = 0;
+    setting = Some setting;
+    seen = [];
+    was = [];
+    heard = [];
+    made = 0;
+    kept = [];
+    noted = 0;
+    turn = Idle;
+  }
 
   -- after a commit, of the history with the new entry
   abbrev pub committed : View C S → List (Entry C) → View C S
@@ -32,7 +43,13 @@ module _ {C S : Type 0} where
 
   -- the opening pass with another that was joined into it
   abbrev pub joined : View C S → View C S → View C S
-  joined v w = record v { seen = longer v.seen w.seen; heard = w.seen; kept = v.kept ++ (w.owner, w.seen) ∷ []; noted = max v.noted w.noted }
+  joined v w = record v {
+    seen = longer v.seen w.seen;
+    heard = w.seen;
+    kept = v.kept
+        ++ (w.owner, w.seen) ∷ [];
+    noted = max v.noted w.noted;
+  }
 
   -- a pass that was told by a note
   abbrev pub told : View C S → View C S → View C S
@@ -47,4 +64,12 @@ module _ {C S : Type 0} where
 
   -- what contracts see of it
   abbrev pub facts_of : TableId → View C S → PassFacts C S
-  facts_of table v = record { table = table; setting = v.setting; owner = v.owner; seen = v.seen; made = v.made; kept = v.kept; noted = v.noted }
+  facts_of table v = record {
+    table = table;
+    setting = v.setting;
+    owner = v.owner;
+    seen = v.seen;
+    made = v.made;
+    kept = v.kept;
+    noted = v.noted;
+  }

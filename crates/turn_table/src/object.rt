@@ -27,7 +27,9 @@ pub trait Object {
     fn apply(&mut self, call: &Self::Call) -> Self::Reply
         requires fits { fits call.now }
         requires stands { (past : List Self.Call) × stands_for self.old past × (length past < MOST_CALLS) }
-        ensures reply { (past : List Self.Call) → stands_for self.old past → length past < MOST_CALLS → result ≡ reply (setting self.old) past call.now }
+        ensures reply { (past : List Self.Call) → stands_for self.old past → length past < MOST_CALLS
+            → result ≡ reply (setting self.old) past call.now }
         ensures setting { setting self.new ≡ setting self.old }
-        ensures stands { (past : List Self.Call) → stands_for self.old past → length past < MOST_CALLS → stands_for self.new (past ++ call.now ∷ []) };
+        ensures stands { (past : List Self.Call) → stands_for self.old past → length past < MOST_CALLS
+            → stands_for self.new (past ++ call.now ∷ []) };
 }

@@ -37,8 +37,10 @@ pub fn answer_in_turn<O: Object>(
     requires holds { HoldsObject O.stands_for O.setting seat.old.me }
     requires fits { O.fits call.now }
     ensures table { seat.new.table_id ≡ seat.old.table_id }
-    ensures made { (log : List (Entry O.Call)) → seat.old.me.0.turn ≡ Holding log → seat.new.me ≡ (record (committed seat.old.me.0 (log ++ (seat.old.me.0.owner, call.now) ∷ [])) { turn = Idle }, []) }
-    ensures reply { (log : List (Entry O.Call)) (setting : O.Setting) → seat.old.me.0.turn ≡ Holding log → seat.old.me.0.setting ≡ Some setting → result ≡ O.reply setting (calls_in log) call.now }
+    ensures made { (log : List (Entry O.Call)) → seat.old.me.0.turn ≡ Holding log
+        → seat.new.me ≡ (record (committed seat.old.me.0 (log ++ (seat.old.me.0.owner, call.now) ∷ [])) { turn = Idle }, []) }
+    ensures reply { (log : List (Entry O.Call)) (setting : O.Setting) → seat.old.me.0.turn ≡ Holding log
+        → seat.old.me.0.setting ≡ Some setting → result ≡ O.reply setting (calls_in log) call.now }
 {
     let mut object = take_value(turns, seat);
     let reply = object.apply(call);

@@ -21,7 +21,8 @@ pub record WorkerState (O : Type 0) : Type 0 where
   pub server : O
 
 abbrev pub worker_state : {A O : Type 0} → (A → Option (List (List ℕ))) → (A → Option Handed) → (A → ℕ) → A → O → WorkerState O
-worker_state coming handed faults accept server = record { coming = coming accept; handed = handed accept; faults = faults accept; server = server }
+worker_state coming handed faults accept server =
+    record { coming = coming accept; handed = handed accept; faults = faults accept; server = server }
 
 -- One connection: what its link had to give, where that was told, and what it had left; what was taken from the outside
 -- and given to it; how serving it ended; whether a call of its link failed; and what served it, before and after.
@@ -76,7 +77,8 @@ pub record IsConnection {S Q E O : Type 0} (service : Service S Q E O) (c : Conn
   pub moments : Adds (service.shown c.before) (service.shown c.now) c.account.moments
   pub events : service.passed c.before c.now c.account.events
   pub front : IsFront (whole_session service.machine (service.state c.before) c.left c.account) service.machine c.account
-  pub tells : Tells service.machine (service.lacked c.before c.now) (service.state c.before) (service.state c.now) c.left c.rest c.account c.result
+  pub tells : Tells service.machine (service.lacked c.before c.now) (service.state c.before)
+      (service.state c.now) c.left c.rest c.account c.result
   pub ends : service.ends c.before c.now c.result
   pub link_fault : HasLinkFault c.result c.failed
 

@@ -10,7 +10,9 @@ use Rattle.worker_loop.specs.declared.finish.Finish.TheVariants.{Well}
 
 -- A worker and its seat, as they were given and as they are handed back: what hands out the worker's connections and what
 -- serves them, before and after, between which the worker served and ended so.
-pub record ServesPlace {S Q E O A W T : Type 0} (service : Service S Q E O) (coming : A → Option (List (List ℕ))) (handed : A → Option Handed) (faults : A → ℕ) (worker_of : A → O → W) (seat_of : A → O → T) (worker : W) (seat : T) (worker' : W) (seat' : T) (stated : ℕ) (finish : Finish) : Type 0 where
+pub record ServesPlace {S Q E O A W T : Type 0} (service : Service S Q E O) (coming : A → Option (List (List ℕ)))
+    (handed : A → Option Handed) (faults : A → ℕ) (worker_of : A → O → W) (seat_of : A → O → T) (worker : W) (seat : T)
+    (worker' : W) (seat' : T) (stated : ℕ) (finish : Finish) : Type 0 where
   pub accept : A
   pub server : O
   pub accept' : A
@@ -19,7 +21,8 @@ pub record ServesPlace {S Q E O A W T : Type 0} (service : Service S Q E O) (com
   pub seat_before : seat_of accept server ≡ seat
   pub worker_after : worker_of accept' server' ≡ worker'
   pub seat_after : seat_of accept' server' ≡ seat'
-  pub serves : Serves service (worker_state coming handed faults accept server) (worker_state coming handed faults accept' server') stated finish
+  pub serves : Serves service (worker_state coming handed faults accept server)
+      (worker_state coming handed faults accept' server') stated finish
 
 -- So many workers ended as their places say, and all of them as the worst of these ends.
 pub record EndsAsWorst (number : ℕ) (whole : Finish) (Place : ℕ → Finish → Type 0) : Type 0 where

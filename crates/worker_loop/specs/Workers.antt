@@ -15,7 +15,8 @@ use Rattle.worker_loop.specs.declared.finish.Finish.TheVariants as finish
 
 -- One connection was served, or none came, for a fault that was counted.
 abbrev pub ServesOne : {S Q E O : Type 0} → Service S Q E O → WorkerState O → WorkerState O → Result After Failed → Type 0
-ServesOne {E = E} {O = O} service u v (Ok next) = (c : Connection E O) × Passes service u v (c ∷ []) × (next ≡ after c.result) × (v.faults ≡ u.faults)
+ServesOne {E = E} {O = O} service u v (Ok next) =
+    (c : Connection E O) × Passes service u v (c ∷ []) × (next ≡ after c.result) × (v.faults ≡ u.faults)
 ServesOne service u v (Err failed) = Passes service u v [] × Rose u.faults v.faults
 
 -- ---- all of them

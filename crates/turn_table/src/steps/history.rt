@@ -33,9 +33,11 @@ impl<O, C, S, J: Said<C>> Play<Option<O>, View<C, S>> for Commits<C, J> {
 pub fn commit<O: Object, J: Said<O::Call>>(turns: &Turns<O>, seat: &mut PassSeat<O>, call: &O::Call)
     requires table { IsSeatOf seat.old.table_id turns.now.table_id }
     requires said { J.said ≡ Some call.now }
-    requires holds { (seat.old.me.0.named ≡ true) × ((l : List (Entry O.Call)) × (seat.old.me.0.turn ≡ Holding l) × (length l < MOST_CALLS)) }
+    requires holds { (seat.old.me.0.named ≡ true)
+        × ((l : List (Entry O.Call)) × (seat.old.me.0.turn ≡ Holding l) × (length l < MOST_CALLS)) }
     ensures table { (seat.new.table_id ≡ seat.old.table_id) × (seat.new.id ≡ seat.old.id) }
-    ensures committed { (l : List (Entry O.Call)) → seat.old.me.0.turn ≡ Holding l → seat.new.me ≡ (committed seat.old.me.0 (l ++ (seat.old.me.0.owner, call.now) ∷ []), seat.old.me.1) }
+    ensures committed { (l : List (Entry O.Call)) → seat.old.me.0.turn ≡ Holding l
+        → seat.new.me ≡ (committed seat.old.me.0 (l ++ (seat.old.me.0.owner, call.now) ∷ []), seat.old.me.1) }
 {
     let _ = call;
     turns.fetch_add::<Commits<O::Call, J>>(seat, CALLS, 1);
