@@ -26,6 +26,7 @@ use Rattle.auth_decide.specs.Candidates.{candidate_of, user_of, with_secret, wit
 use Rattle.auth_decide.specs.Messages.{Names}
 use Rattle.auth_decide.specs.Credentials.{Reads, credentials_lines, nonce_in, other_scheme, presented, presented_digest}
 use Rattle.auth_decide.specs.Stages.{Question, candidate_stage, first_stage, first_stage_in, name_within, presented_stage, protection_space, stage_after, taken_stage}
+use Rattle.auth_decide.specs.VerifiedCredentials.{verified}
 use Rattle.auth_decide.specs.declared.candidate.Candidate.{Candidate}
 use Rattle.auth_decide.specs.declared.credentials.Presented.{Presented}
 use Rattle.auth_decide.specs.declared.credentials.Presented.TheVariants as presents
@@ -132,7 +133,7 @@ fresh_good sizes q space c n prime calls number fresh =
     let past = answered sizes n.shard calls in
     let counts : List ℕ = counts_behind sizes n calls in
     let count : ℕ = nc_number c.credentials.nc in
-    let t = fresh_tests (is_live sizes n.shard past n Digest space.number (time_at past q.moment)) (nat_le (count + WIDTH) (high counts)) (list_any (λ x. x == count) counts) (is_other (given_prime c (record { items = prime })) (prime_behind sizes n calls)) (high counts) (length counts + 1) number fresh in
+    let t = fresh_tests (is_live sizes n.shard past n Digest space.number (time_at past q.moment)) (nat_le (count + WIDTH) (high counts)) (list_any (λ x. x == count) counts) (is_other (given_prime (verified c prime)) (prime_behind sizes n calls)) (high counts) (length counts + 1) number fresh in
     (t.0, record { in_window = (behind_is count (high counts)).0 t.1; new = (repeated_is count counts).0 t.2 }, (other_is c.credentials.kind.session prime (prime_behind sizes n calls)).0 t.3)
 
 good_fresh : (sizes : Sizes) (q : Question) (space : Space) (c : Candidate) (n : TableName) (prime : List ℕ) (calls : List Call)
@@ -141,7 +142,7 @@ good_fresh sizes q space c n prime calls good =
     let past = answered sizes n.shard calls in
     let counts : List ℕ = counts_behind sizes n calls in
     let count : ℕ = nc_number c.credentials.nc in
-    tests_fresh (is_live sizes n.shard past n Digest space.number (time_at past q.moment)) (nat_le (count + WIDTH) (high counts)) (list_any (λ x. x == count) counts) (is_other (given_prime c (record { items = prime })) (prime_behind sizes n calls)) (high counts) (length counts + 1)
+    tests_fresh (is_live sizes n.shard past n Digest space.number (time_at past q.moment)) (nat_le (count + WIDTH) (high counts)) (list_any (λ x. x == count) counts) (is_other (given_prime (verified c prime)) (prime_behind sizes n calls)) (high counts) (length counts + 1)
     good.0 ((behind_is count (high counts)).1 good.1.in_window) ((repeated_is count counts).1 good.1.new) ((other_is c.credentials.kind.session prime (prime_behind sizes n calls)).1 good.2)
 
 -- what is said of the calls behind which the nonce is judged

@@ -21,6 +21,7 @@ use Rattle.auth_decide.specs.Credentials.{Reads, credentials_lines, other_scheme
 use Rattle.auth_decide.specs.Messages.{scram_scheme}
 use Rattle.auth_decide.specs.Paths.{correspond}
 use Rattle.auth_decide.specs.Stages.{Question, digest_stage, first_stage, first_stage_in, mode_stage, name_within, presented_stage, protection_space, stage_at, taken_stage}
+use Rattle.auth_decide.specs.VerifiedCredentials.{verified}
 use Rattle.auth_decide.specs.declared.candidate.Candidate.{Candidate}
 use Rattle.auth_decide.specs.declared.credentials.CredentialsField.{CredentialsField}
 use Rattle.auth_decide.specs.declared.credentials.CredentialsField.TheVariants as field
@@ -178,7 +179,7 @@ used_last sizes q space c n steps verdict user text u a =
         named = text;
         before = u.before;
         calls = u.calls;
-        call = use_of q.moment space n c (record { items = u.prime });
+        call = use_of q.moment space n (verified c u.prime);
         after = u.after;
         is = u.is;
         uses = (refl, refl);

@@ -16,6 +16,7 @@ use Rattle.spaces_map.specs.declared.space.Space.{Space}
 use Rattle.auth_decide.specs.Asks.{peek}
 use Rattle.auth_decide.specs.Responses.{is_right, right_response}
 use Rattle.auth_decide.specs.Stages.{Question, candidate_stage, challenge_stage, response_stage, right_stage, stage_after_peek}
+use Rattle.auth_decide.specs.VerifiedCredentials.{verified}
 use Rattle.auth_decide.specs.declared.candidate.Candidate.{Candidate}
 use Rattle.auth_decide.specs.declared.stages.Stage.TheVariants as stage
 use Rattle.auth_decide.specs.declared.verdict.Ask.TheVariants as asks
@@ -67,8 +68,8 @@ plain_value : (q : Question) (c : Candidate) (one other : List ℕ) → c.creden
 plain_value q c one other plain = rw plain refl
 
 by_response : (sizes : Sizes) (q : Question) (space : Space) (c : Candidate) (prime : List ℕ) (n : Option TableName) (steps : List Step) (verdict : Verdict) (right : Bool) → is_right q.request c prime ≡ right
-    → Run sizes q space (response_stage q.request c prime n) steps verdict → Run sizes q space (if right then right_stage c prime n else challenge_stage false) steps verdict
-by_response sizes q space c prime n steps verdict right is run = subst (λ (b : Bool). Run sizes q space (if b then right_stage c prime n else challenge_stage false) steps verdict) is run
+    → Run sizes q space (response_stage q.request c prime n) steps verdict → Run sizes q space (if right then right_stage (verified c prime) n else challenge_stage false) steps verdict
+by_response sizes q space c prime n steps verdict right is run = subst (λ (b : Bool). Run sizes q space (if b then right_stage (verified c prime) n else challenge_stage false) steps verdict) is run
 
 -- where the table can't have the nonce, it is a challenge
 pub without_nonce : (sizes : Sizes) (q : Question) (space : Space) (c : Candidate) (prime : List ℕ) (steps : List Step) (verdict : Verdict) → Run sizes q space (response_stage q.request c prime None) steps verdict

@@ -1,7 +1,6 @@
 -- How the steps of a decision go on from a stage to its verdict.
 use Rattle.std.proofs.Common.{◌≡◌, ℕ, Bool, true, false, nat_lt, List, [], ◌∷◌, ◌++◌, length, fold, filter_map, Option, Some, None, refl, sym, ap, ◌∙◌, subst}
 use Rattle.std.specs.Prelude.{if◌then◌else◌}
-use Rattle.arrayvec.specs.ArrayVec.{ArrayVec}
 use Rattle.nonce_shard.specs.Names.{name_text}
 use Rattle.nonce_shard.specs.Nonces.{nonces}
 use Rattle.nonce_shard.specs.Replies.{answered, reply}
@@ -15,6 +14,7 @@ use Rattle.nonce_shard.specs.declared.sizes.Sizes.{Sizes}
 use Rattle.spaces_map.specs.declared.space.Space.{Space}
 use Rattle.auth_decide.specs.Asks.{admission, ask_at, issue, use_of, verdict_with}
 use Rattle.auth_decide.specs.Stages.{Question, admitted_stage, challenge_stage, new_name, shard_for, stage_after, stage_after_use}
+use Rattle.auth_decide.specs.VerifiedCredentials.{VerifiedCredentials, verified}
 use Rattle.auth_decide.specs.declared.candidate.Candidate.{Candidate}
 use Rattle.auth_decide.specs.declared.challenges.Stale.TheVariants as stales
 use Rattle.auth_decide.specs.declared.stages.Purpose.{Purpose}
@@ -137,12 +137,12 @@ pub record IsUseOf (c : Candidate) (r : Reply) (rest : List Step) (verdict : Ver
   pub admits : (number : ℕ) → r ≡ Fresh number → Admits c.user verdict
   pub fresh : (user : List ℕ) → Admits user verdict → (number : ℕ) × (r ≡ Fresh number) × (c.user ≡ user)
 
-use_admits : (c : Candidate) (prime : ArrayVec ℕ) (next : Option (List ℕ)) (number : ℕ) (rest : List Step) (verdict : Verdict) → OnlyIssue rest → verdict ≡ admission c prime next
-    → IsUseOf c (Fresh number) rest verdict
-use_admits c prime next number rest verdict only is = record {
+use_admits : (v : VerifiedCredentials) (next : Option (List ℕ)) (number : ℕ) (rest : List Step) (verdict : Verdict) → OnlyIssue rest → verdict ≡ admission v next
+    → IsUseOf v.candidate (Fresh number) rest verdict
+use_admits v next number rest verdict only is = record {
   only = only;
-  admits = λ other e. subst (λ (v : Verdict). Admits c.user v) (sym is) refl;
-  fresh = λ user a. (number, refl, subst (λ (v : Verdict). Admits user v) is a);
+  admits = λ other e. subst (λ (ended : Verdict). Admits v.candidate.user ended) (sym is) refl;
+  fresh = λ user a. (number, refl, subst (λ (ended : Verdict). Admits user ended) is a);
 }
 
 use_rejects : (c : Candidate) (r : Reply) (rest : List Step) (verdict : Verdict) → ((number : ℕ) → r ≡ Fresh number → ⊥) → OnlyIssue rest × ((user : List ℕ) → Admits user verdict → ⊥) → IsUseOf c r rest verdict
@@ -152,17 +152,17 @@ use_rejects c r rest verdict not_fresh rejects = record {
   fresh = λ user a. absurd (rejects.1 user a);
 }
 
-admitted : (sizes : Sizes) (q : Question) (space : Space) (c : Candidate) (prime : ArrayVec ℕ) (number : ℕ) (rest : List Step) (verdict : Verdict)
-    → Run sizes q space (admitted_stage c prime number) rest verdict → IsUseOf c (Fresh number) rest verdict
-admitted sizes q space c prime number rest verdict = by (nat_lt number NEXT_NONCE_USES)
+admitted : (sizes : Sizes) (q : Question) (space : Space) (v : VerifiedCredentials) (number : ℕ) (rest : List Step) (verdict : Verdict)
+    → Run sizes q space (admitted_stage v number) rest verdict → IsUseOf v.candidate (Fresh number) rest verdict
+admitted sizes q space v number rest verdict = by (nat_lt number NEXT_NONCE_USES)
   where
-    by : (few : Bool) → Run sizes q space (if few then stage.Admitted c prime else stage.Drawing (purpose.Next c prime)) rest verdict → IsUseOf c (Fresh number) rest verdict
+    by : (few : Bool) → Run sizes q space (if few then stage.Admitted v else stage.Drawing (purpose.Next v)) rest verdict → IsUseOf v.candidate (Fresh number) rest verdict
     by true run =
-        let e = ended sizes q space (stage.Admitted c prime) (admission c prime None) refl rest verdict run in
-        use_admits c prime None number rest verdict (subst OnlyIssue (sym e.0) tt) e.1
+        let e = ended sizes q space (stage.Admitted v) (admission v None) refl rest verdict run in
+        use_admits v None number rest verdict (subst OnlyIssue (sym e.0) tt) e.1
     by false run =
-        let i = drawing sizes q space (purpose.Next c prime) rest verdict run in
-        use_admits c prime (Some i.text) number rest verdict i.only i.is
+        let i = drawing sizes q space (purpose.Next v) rest verdict run in
+        use_admits v (Some i.text) number rest verdict i.only i.is
 
 pub mismatched : (sizes : Sizes) (q : Question) (space : Space) (rest : List Step) (verdict : Verdict) → Run sizes q space stage.Mismatched rest verdict
     → OnlyIssue rest × ((user : List ℕ) → Admits user verdict → ⊥)
@@ -170,29 +170,29 @@ mismatched sizes q space rest verdict run =
     let e = ended sizes q space stage.Mismatched (Challenge []) refl rest verdict run in
     (subst OnlyIssue (sym e.0) tt, λ user a. subst (λ (v : Verdict). Admits user v) e.1 a)
 
-after_use : (sizes : Sizes) (q : Question) (space : Space) (c : Candidate) (prime : ArrayVec ℕ) (r : Reply) (rest : List Step) (verdict : Verdict)
-    → Run sizes q space (stage_after_use c prime r) rest verdict → IsUseOf c r rest verdict
-after_use sizes q space c prime (Fresh number) rest verdict run = admitted sizes q space c prime number rest verdict run
-after_use sizes q space c prime Gone rest verdict run = use_rejects c Gone rest verdict (λ n e. cc) (challenged sizes q space true rest verdict run)
-after_use sizes q space c prime (Behind top) rest verdict run = use_rejects c (Behind top) rest verdict (λ n e. cc) (challenged sizes q space true rest verdict run)
-after_use sizes q space c prime Repeated rest verdict run = use_rejects c Repeated rest verdict (λ n e. cc) (challenged sizes q space true rest verdict run)
-after_use sizes q space c prime OtherSession rest verdict run = use_rejects c OtherSession rest verdict (λ n e. cc) (challenged sizes q space false rest verdict run)
-after_use sizes q space c prime _ rest verdict run = use_rejects c _ rest verdict (λ n e. cc) (mismatched sizes q space rest verdict run)
+after_use : (sizes : Sizes) (q : Question) (space : Space) (v : VerifiedCredentials) (r : Reply) (rest : List Step) (verdict : Verdict)
+    → Run sizes q space (stage_after_use v r) rest verdict → IsUseOf v.candidate r rest verdict
+after_use sizes q space v (Fresh number) rest verdict run = admitted sizes q space v number rest verdict run
+after_use sizes q space v Gone rest verdict run = use_rejects v.candidate Gone rest verdict (λ n e. cc) (challenged sizes q space true rest verdict run)
+after_use sizes q space v (Behind top) rest verdict run = use_rejects v.candidate (Behind top) rest verdict (λ n e. cc) (challenged sizes q space true rest verdict run)
+after_use sizes q space v Repeated rest verdict run = use_rejects v.candidate Repeated rest verdict (λ n e. cc) (challenged sizes q space true rest verdict run)
+after_use sizes q space v OtherSession rest verdict run = use_rejects v.candidate OtherSession rest verdict (λ n e. cc) (challenged sizes q space false rest verdict run)
+after_use sizes q space v _ rest verdict run = use_rejects v.candidate _ rest verdict (λ n e. cc) (mismatched sizes q space rest verdict run)
 
 -- a use of a count behind these calls, with what it leads to
 abbrev pub use_step : Question → Space → TableName → Candidate → List ℕ → List Call → Step
-use_step q space n c prime calls = Called n.shard calls (use_of q.moment space n c (record { items = prime }))
+use_step q space n c prime calls = Called n.shard calls (use_of q.moment space n (verified c prime))
 
 abbrev pub use_reply_of : Sizes → Question → Space → TableName → Candidate → List ℕ → List Call → Reply
-use_reply_of sizes q space n c prime calls = reply sizes n.shard calls (use_of q.moment space n c (record { items = prime }))
+use_reply_of sizes q space n c prime calls = reply sizes n.shard calls (use_of q.moment space n (verified c prime))
 
 pub using : (sizes : Sizes) (q : Question) (space : Space) (c : Candidate) (n : TableName) (prime : List ℕ) (verdict : Verdict) (P : List Step → Type 0)
     → ((calls : List Call) (rest : List Step) → IsUseOf c (use_reply_of sizes q space n c prime calls) rest verdict → P (use_step q space n c prime calls ∷ rest))
-    → (steps : List Step) → Run sizes q space (stage.Using c (record { items = prime }) n) steps verdict → P steps
-using sizes q space c n prime verdict P holds [] run = absurd (let no : asks.Table n.shard (use_of q.moment space n c (record { items = prime })) ≡ asks.Verdict verdict = run in cc)
+    → (steps : List Step) → Run sizes q space (stage.Using (verified c prime) n) steps verdict → P steps
+using sizes q space c n prime verdict P holds [] run = absurd (let no : asks.Table n.shard (use_of q.moment space n (verified c prime)) ≡ asks.Verdict verdict = run in cc)
 using sizes q space c n prime verdict P holds (step ∷ rest) run =
-    let s : Stage = stage.Using c (record { items = prime }) n in
-    let call = use_of q.moment space n c (record { items = prime }) in
+    let s : Stage = stage.Using (verified c prime) n in
+    let call = use_of q.moment space n (verified c prime) in
     let Q : List Step → Type 0 = λ l. Run sizes q space s l verdict → P l in
     at_call Q n.shard call step rest run.0
-    (λ before next. holds before rest (after_use sizes q space c (record { items = prime }) (reply sizes n.shard before call) rest verdict next.1)) run
+    (λ before next. holds before rest (after_use sizes q space (verified c prime) (reply sizes n.shard before call) rest verdict next.1)) run

@@ -1,7 +1,6 @@
 -- How many calls of the table a decision may still make.
 use Rattle.std.proofs.Common.{ℕ, zero, suc, ◌≤◌, min, fold, Bool, true, false, nat_lt, List, [], ◌∷◌, ◌++◌, Option, Some, None, arith}
 use Rattle.std.specs.Prelude.{if◌then◌else◌}
-use Rattle.arrayvec.specs.ArrayVec.{ArrayVec}
 use Rattle.cred_store.specs.declared.entry.Entry.{Entry}
 use Rattle.digest_fields.specs.Credentials.{Credentials}
 use Rattle.http_wire.specs.declared.request.Request.{Request}
@@ -32,7 +31,8 @@ use Rattle.auth_decide.specs.declared.scram_message.FinalMessage.{FinalMessage}
 use Rattle.auth_decide.specs.declared.scram_message.FirstMessage.{FirstMessage}
 use Rattle.auth_decide.specs.declared.scram_message.ScramMessage.{ScramMessage}
 use Rattle.auth_decide.specs.declared.scram_message.ScramMessage.TheVariants as message
-use Rattle.auth_decide.specs.Stages.{Answer, Question, Replied, Words, admitted_stage, again_stage, attempt_stage, candidate_stage, challenge_stage, digest_stage, final_stage, first_message_stage, first_stage, first_stage_in, keeping_stage, keyed_stage, message_stage, mode_stage, name_within, presented_stage, protection_space, proved_stage, response_stage, reusing_stage, right_stage, scram_stage, stage_after, stage_after_issue, stage_after_keep, stage_after_open, stage_after_peek, stage_after_recall, stage_after_reuse, stage_after_take, stage_after_use, taken_stage, takes_realm}
+use Rattle.auth_decide.specs.Stages.{Answer, Question, Replied, Words, admitted_stage, again_stage, candidate_stage, challenge_stage, digest_stage, final_stage, first_stage, first_stage_in, keeping_stage, keyed_stage, message_stage, mode_stage, name_within, presented_stage, protection_space, proved_stage, response_stage, reusing_stage, right_stage, scram_stage, stage_after, stage_after_issue, stage_after_keep, stage_after_open, stage_after_peek, stage_after_recall, stage_after_reuse, stage_after_take, stage_after_use, taken_stage, takes_realm}
+use Rattle.auth_decide.specs.VerifiedCredentials.{VerifiedCredentials, verified}
 use Rattle.auth_decide.specs.declared.candidate.Candidate.{Candidate}
 use Rattle.auth_decide.specs.declared.credentials.Presented.{Presented}
 use Rattle.auth_decide.specs.declared.credentials.Presented.TheVariants as presents
@@ -77,7 +77,7 @@ Pays n answers ask = IsCall ask → (answer : Answer) → suc (calls_left (answe
 -- how many may come from a stage on
 abbrev calls_at : Stage → ℕ
 calls_at (stage.Peeking c nonce) = 3
-calls_at (stage.Using c prime nonce) = 2
+calls_at (stage.Using v nonce) = 2
 calls_at (stage.Drawing purpose) = 1
 calls_at (stage.Issuing purpose words) = 1
 calls_at (stage.Recalling a again) = 3
@@ -105,7 +105,7 @@ more m n s less a = (let few = a.few in record { few = omega (arith, few, less);
 response_calls : (request : Request) (c : Candidate) (prime : List ℕ) (nonce : Option TableName) → CallsAtMost 2 (response_stage request c prime nonce)
 response_calls request c prime nonce = by (is_right request c prime) nonce
   where
-    by : (right : Bool) (o : Option TableName) → CallsAtMost 2 (if right then right_stage c prime o else challenge_stage false)
+    by : (right : Bool) (o : Option TableName) → CallsAtMost 2 (if right then right_stage (verified c prime) o else challenge_stage false)
     by true None = record { few = omega arith; before = tt }
     by true (Some name) = record { few = omega arith; before = tt }
     by false o = record { few = omega arith; before = tt }
@@ -116,20 +116,20 @@ peek_calls request c nonce (reply.Prime None) = response_calls request c c.crede
 peek_calls request c nonce reply.Gone = response_calls request c c.credentials.cnonce None
 peek_calls request c nonce _ = record { few = omega arith; before = tt }
 
-admitted_calls : (c : Candidate) (prime : ArrayVec ℕ) (uses : ℕ) → CallsAtMost 1 (admitted_stage c prime uses)
-admitted_calls c prime uses = by (nat_lt uses NEXT_NONCE_USES)
+admitted_calls : (v : VerifiedCredentials) (uses : ℕ) → CallsAtMost 1 (admitted_stage v uses)
+admitted_calls v uses = by (nat_lt uses NEXT_NONCE_USES)
   where
-    by : (few : Bool) → CallsAtMost 1 (if few then stage.Admitted c prime else stage.Drawing (Next c prime))
+    by : (few : Bool) → CallsAtMost 1 (if few then stage.Admitted v else stage.Drawing (Next v))
     by true = record { few = omega arith; before = tt }
     by false = record { few = omega arith; before = tt }
 
-use_calls : (c : Candidate) (prime : ArrayVec ℕ) (r : Reply) → CallsAtMost 1 (stage_after_use c prime r)
-use_calls c prime (reply.Fresh uses) = admitted_calls c prime uses
-use_calls c prime reply.Gone = record { few = omega arith; before = tt }
-use_calls c prime (reply.Behind high) = record { few = omega arith; before = tt }
-use_calls c prime reply.Repeated = record { few = omega arith; before = tt }
-use_calls c prime reply.OtherSession = record { few = omega arith; before = tt }
-use_calls c prime _ = record { few = omega arith; before = tt }
+use_calls : (v : VerifiedCredentials) (r : Reply) → CallsAtMost 1 (stage_after_use v r)
+use_calls v (reply.Fresh uses) = admitted_calls v uses
+use_calls v reply.Gone = record { few = omega arith; before = tt }
+use_calls v (reply.Behind high) = record { few = omega arith; before = tt }
+use_calls v reply.Repeated = record { few = omega arith; before = tt }
+use_calls v reply.OtherSession = record { few = omega arith; before = tt }
+use_calls v _ = record { few = omega arith; before = tt }
 
 issue_calls : (shards : ℕ) (purpose : Purpose) (words : List ℕ) (r : Reply) → calls_at (stage_after_issue shards purpose words r) ≤ 0
 issue_calls shards purpose words (reply.Issued serial) = omega arith
@@ -185,8 +185,8 @@ over_stays q (stage.Bad why) (Words w) over = over
 over_stays q (stage.Bad why) (Replied r) over = over
 over_stays q (stage.Issued purpose nonce) (Words w) over = over
 over_stays q (stage.Issued purpose nonce) (Replied r) over = over
-over_stays q (stage.Admitted c prime) (Words w) over = over
-over_stays q (stage.Admitted c prime) (Replied r) over = over
+over_stays q (stage.Admitted v) (Words w) over = over
+over_stays q (stage.Admitted v) (Replied r) over = over
 over_stays q stage.Mismatched (Words w) over = over
 over_stays q stage.Mismatched (Replied r) over = over
 over_stays q (stage.Continued e sid) (Words w) over = over
@@ -202,7 +202,7 @@ over_stays q (stage.Reusing user sr count) a over = absurd (omega (arith, over))
 over_stays q (stage.Drawing purpose) a over = absurd (omega (arith, over))
 over_stays q (stage.Issuing purpose words) a over = absurd (omega (arith, over))
 over_stays q (stage.Peeking c nonce) a over = absurd (omega (arith, over))
-over_stays q (stage.Using c prime nonce) a over = absurd (omega (arith, over))
+over_stays q (stage.Using v nonce) a over = absurd (omega (arith, over))
 
 over_all : (q : Question) (answers : List Answer) (s : Stage) → IsOver s → IsOver (fold (stage_after q) s answers)
 over_all q [] s over = over
@@ -213,7 +213,7 @@ no_call q None s over call = call
 no_call q (Some space) (stage.Drawing purpose) over call = call
 no_call q (Some space) (stage.Issuing purpose words) over call = omega (arith, over)
 no_call q (Some space) (stage.Peeking c nonce) over call = omega (arith, over)
-no_call q (Some space) (stage.Using c prime nonce) over call = omega (arith, over)
+no_call q (Some space) (stage.Using v nonce) over call = omega (arith, over)
 no_call q (Some space) (stage.Issued purpose nonce) over call = call
 no_call q (Some space) (stage.Beginning e) over call = call
 no_call q (Some space) (stage.Opening e words) over call = omega (arith, over)
@@ -225,7 +225,7 @@ no_call q (Some space) (stage.Continued e sid) over call = call
 no_call q (Some space) (stage.Authenticated user) over call = call
 no_call q (Some space) stage.Open over call = call
 no_call q (Some space) (stage.Bad why) over call = call
-no_call q (Some space) (stage.Admitted c prime) over call = call
+no_call q (Some space) (stage.Admitted v) over call = call
 no_call q (Some space) stage.Mismatched over call = call
 
 -- a reply leads on to a stage with fewer calls
@@ -233,7 +233,7 @@ reply_calls : (q : Question) (s : Stage) (r : Reply) (n : ℕ) → CallsAtMost (
 reply_calls q (stage.Issuing purpose words) r n a = absurd a.before
 reply_calls q (stage.Drawing purpose) r n a = record { few = omega arith; before = tt }
 reply_calls q (stage.Peeking c nonce) r n a = (let few = a.few in more 2 n (stage_after_peek q.request c nonce r) (omega (arith, few)) (peek_calls q.request c nonce r))
-reply_calls q (stage.Using c prime nonce) r n a = (let few = a.few in more 1 n (stage_after_use c prime r) (omega (arith, few)) (use_calls c prime r))
+reply_calls q (stage.Using v nonce) r n a = (let few = a.few in more 1 n (stage_after_use v r) (omega (arith, few)) (use_calls v r))
 reply_calls q (stage.Opening e words) r n a = absurd a.before
 reply_calls q (stage.Taking attempt) r n a = (let few = a.few in more 2 n (stage_after_take q.site.store attempt r) (omega (arith, few)) (take_calls q.site.store attempt r))
 reply_calls q (stage.Keeping user) r n a = more 0 n (stage_after_keep user r) (omega arith) (keep_calls user r)
@@ -247,7 +247,7 @@ words_over q (stage.Issuing purpose drawn) w a before = absurd before
 words_over q (stage.Drawing purpose) w (Words v) before = omega arith
 words_over q (stage.Drawing purpose) w (Replied r) before = issue_calls q.shards purpose w r
 words_over q (stage.Peeking c nonce) w a before = over_stays q stage.Mismatched a (omega arith)
-words_over q (stage.Using c prime nonce) w a before = over_stays q stage.Mismatched a (omega arith)
+words_over q (stage.Using v nonce) w a before = over_stays q stage.Mismatched a (omega arith)
 words_over q (stage.Opening e drawn) w a before = absurd before
 words_over q (stage.Beginning e) w (Words v) before = omega arith
 words_over q (stage.Beginning e) w (Replied r) before = open_calls q.shards e w r
@@ -260,7 +260,7 @@ words_over q (stage.Authenticated user) w a before = over_stays q (stage.Authent
 words_over q stage.Open w a before = over_stays q stage.Open a (omega arith)
 words_over q (stage.Bad why) w a before = over_stays q (stage.Bad why) a (omega arith)
 words_over q (stage.Issued purpose nonce) w a before = over_stays q (stage.Issued purpose nonce) a (omega arith)
-words_over q (stage.Admitted c prime) w a before = over_stays q (stage.Admitted c prime) a (omega arith)
+words_over q (stage.Admitted v) w a before = over_stays q (stage.Admitted v) a (omega arith)
 words_over q stage.Mismatched w a before = over_stays q stage.Mismatched a (omega arith)
 
 -- the first call is at a look-up or a use, or behind words
@@ -268,7 +268,7 @@ first_pays : (q : Question) (o : Option Space) (s : Stage) (n : ℕ) → CallsAt
 first_pays q None s n a call = absurd call
 first_pays q (Some space) (stage.Issuing purpose words) n a call = absurd a.before
 first_pays q (Some space) (stage.Peeking c nonce) n a call = (let few = a.few in omega (arith, few))
-first_pays q (Some space) (stage.Using c prime nonce) n a call = (let few = a.few in omega (arith, few))
+first_pays q (Some space) (stage.Using v nonce) n a call = (let few = a.few in omega (arith, few))
 first_pays q (Some space) (stage.Drawing purpose) n a call = absurd call
 first_pays q (Some space) (stage.Issued purpose nonce) n a call = absurd call
 first_pays q (Some space) (stage.Opening e words) n a call = absurd a.before
@@ -281,7 +281,7 @@ first_pays q (Some space) (stage.Continued e sid) n a call = absurd call
 first_pays q (Some space) (stage.Authenticated user) n a call = absurd call
 first_pays q (Some space) stage.Open n a call = absurd call
 first_pays q (Some space) (stage.Bad why) n a call = absurd call
-first_pays q (Some space) (stage.Admitted c prime) n a call = absurd call
+first_pays q (Some space) (stage.Admitted v) n a call = absurd call
 first_pays q (Some space) stage.Mismatched n a call = absurd call
 
 words_pay : (q : Question) (o : Option Space) (s : Stage) (w : List ℕ) (n : ℕ) → CallsAtMost n s → IsCall (ask_in q o (stage_after q s (Words w))) → 1 ≤ n

@@ -1,7 +1,6 @@
 -- A decision asks few things: each answer leads on to a stage that leaves fewer to ask.
 use Rattle.std.proofs.Common.{ℕ, ◌≤◌, ◌<◌, ◌-◌, Bool, true, false, nat_lt, List, [], ◌∷◌, length, fold, Option, Some, None, arith}
 use Rattle.std.specs.Prelude.{if◌then◌else◌}
-use Rattle.arrayvec.specs.ArrayVec.{ArrayVec}
 use Rattle.cred_store.specs.declared.entry.Entry.{Entry}
 use Rattle.digest_fields.specs.Credentials.{Credentials}
 use Rattle.http_wire.specs.declared.request.Request.{Request}
@@ -33,7 +32,8 @@ use Rattle.auth_decide.specs.declared.scram_message.FinalMessage.{FinalMessage}
 use Rattle.auth_decide.specs.declared.scram_message.FirstMessage.{FirstMessage}
 use Rattle.auth_decide.specs.declared.scram_message.ScramMessage.{ScramMessage}
 use Rattle.auth_decide.specs.declared.scram_message.ScramMessage.TheVariants as message
-use Rattle.auth_decide.specs.Stages.{Answer, Question, Replied, Words, admitted_stage, again_stage, attempt_stage, candidate_stage, challenge_stage, digest_stage, final_stage, first_message_stage, first_stage, first_stage_in, keeping_stage, keyed_stage, message_stage, mode_stage, name_within, presented_stage, protection_space, proved_stage, response_stage, reusing_stage, right_stage, scram_stage, stage_after, stage_after_issue, stage_after_keep, stage_after_open, stage_after_peek, stage_after_recall, stage_after_reuse, stage_after_take, stage_after_use, stage_at, taken_stage, takes_realm}
+use Rattle.auth_decide.specs.Stages.{Answer, Question, Replied, Words, admitted_stage, again_stage, candidate_stage, challenge_stage, digest_stage, final_stage, first_stage, first_stage_in, keeping_stage, keyed_stage, message_stage, mode_stage, name_within, presented_stage, protection_space, proved_stage, response_stage, reusing_stage, right_stage, scram_stage, stage_after, stage_after_issue, stage_after_keep, stage_after_open, stage_after_peek, stage_after_recall, stage_after_reuse, stage_after_take, stage_after_use, stage_at, taken_stage, takes_realm}
+use Rattle.auth_decide.specs.VerifiedCredentials.{VerifiedCredentials, verified}
 use Rattle.auth_decide.specs.declared.candidate.Candidate.{Candidate}
 use Rattle.auth_decide.specs.declared.credentials.Presented.{Presented}
 use Rattle.auth_decide.specs.declared.credentials.Presented.TheVariants as presents
@@ -51,7 +51,7 @@ use Rattle.auth_decide.specs.declared.verdict.Why.TheVariants as why
 response_left : (request : Request) (c : Candidate) (prime : List ℕ) (nonce : Option TableName) → asks_left (response_stage request c prime nonce) ≤ 3
 response_left request c prime nonce = by (is_right request c prime) nonce
   where
-    by : (right : Bool) (o : Option TableName) → asks_left (if right then right_stage c prime o else challenge_stage false) ≤ 3
+    by : (right : Bool) (o : Option TableName) → asks_left (if right then right_stage (verified c prime) o else challenge_stage false) ≤ 3
     by true None = omega arith
     by true (Some name) = omega arith
     by false o = omega arith
@@ -62,20 +62,20 @@ peek_left request c nonce (reply.Prime None) = response_left request c c.credent
 peek_left request c nonce reply.Gone = response_left request c c.credentials.cnonce None
 peek_left request c nonce _ = omega arith
 
-admitted_left : (c : Candidate) (prime : ArrayVec ℕ) (uses : ℕ) → asks_left (admitted_stage c prime uses) ≤ 2
-admitted_left c prime uses = by (nat_lt uses NEXT_NONCE_USES)
+admitted_left : (v : VerifiedCredentials) (uses : ℕ) → asks_left (admitted_stage v uses) ≤ 2
+admitted_left v uses = by (nat_lt uses NEXT_NONCE_USES)
   where
-    by : (few : Bool) → asks_left (if few then stage.Admitted c prime else stage.Drawing (Next c prime)) ≤ 2
+    by : (few : Bool) → asks_left (if few then stage.Admitted v else stage.Drawing (Next v)) ≤ 2
     by true = omega arith
     by false = omega arith
 
-use_left : (c : Candidate) (prime : ArrayVec ℕ) (r : Reply) → asks_left (stage_after_use c prime r) ≤ 2
-use_left c prime (reply.Fresh uses) = admitted_left c prime uses
-use_left c prime reply.Gone = omega arith
-use_left c prime (reply.Behind high) = omega arith
-use_left c prime reply.Repeated = omega arith
-use_left c prime reply.OtherSession = omega arith
-use_left c prime _ = omega arith
+use_left : (v : VerifiedCredentials) (r : Reply) → asks_left (stage_after_use v r) ≤ 2
+use_left v (reply.Fresh uses) = admitted_left v uses
+use_left v reply.Gone = omega arith
+use_left v (reply.Behind high) = omega arith
+use_left v reply.Repeated = omega arith
+use_left v reply.OtherSession = omega arith
+use_left v _ = omega arith
 
 issue_left : (shards : ℕ) (purpose : Purpose) (words : List ℕ) (r : Reply) → asks_left (stage_after_issue shards purpose words r) ≤ 0
 issue_left shards purpose words (reply.Issued serial) = omega arith
@@ -126,7 +126,7 @@ after_left q (stage.Beginning e) (Words words) = omega arith
 after_left q _ (Words words) = omega arith
 after_left q (stage.Issuing purpose words) (Replied r) = (let few = issue_left q.shards purpose words r in omega (arith, few))
 after_left q (stage.Peeking c nonce) (Replied r) = (let few = peek_left q.request c nonce r in omega (arith, few))
-after_left q (stage.Using c prime nonce) (Replied r) = (let few = use_left c prime r in omega (arith, few))
+after_left q (stage.Using v nonce) (Replied r) = (let few = use_left v r in omega (arith, few))
 after_left q (stage.Opening e words) (Replied r) = (let few = open_left q.shards e words r in omega (arith, few))
 after_left q (stage.Taking a) (Replied r) = (let few = take_left q.site.store a r in omega (arith, few))
 after_left q (stage.Keeping user) (Replied r) = (let few = keep_left user r in omega (arith, few))
@@ -137,13 +137,13 @@ after_left q _ (Replied r) = omega arith
 outside_left : (q : Question) (o : Option Space) (s : Stage) → IsOutside (ask_in q o s) → 1 ≤ asks_left s
 outside_left q None s out = absurd out
 outside_left q (Some space) (stage.Peeking c nonce) out = omega arith
-outside_left q (Some space) (stage.Using c prime nonce) out = omega arith
+outside_left q (Some space) (stage.Using v nonce) out = omega arith
 outside_left q (Some space) (stage.Drawing purpose) out = omega arith
 outside_left q (Some space) (stage.Issuing purpose words) out = omega arith
 outside_left q (Some space) (stage.Issued purpose nonce) out = absurd out
 outside_left q (Some space) stage.Open out = absurd out
 outside_left q (Some space) (stage.Bad why) out = absurd out
-outside_left q (Some space) (stage.Admitted c prime) out = absurd out
+outside_left q (Some space) (stage.Admitted v) out = absurd out
 outside_left q (Some space) (stage.Beginning e) out = omega arith
 outside_left q (Some space) (stage.Opening e words) out = omega arith
 outside_left q (Some space) (stage.Taking a) out = omega arith

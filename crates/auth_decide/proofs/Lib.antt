@@ -5,3 +5,4 @@ pub mod Within
 pub mod Calls
 pub mod OneLine
 pub mod Refusals
+pub mod Verifying

@@ -1,5 +1,5 @@
 -- What is refused is no message.
-use Rattle.std.proofs.Common.{◌≡◌, ◌≢◌, ◌≤◌, ◌<◌, ◌+◌, ℕ, List, ◌∷◌, ◌++◌, length, refl, sym, ap, ◌∙◌, arith}
+use Rattle.std.proofs.Common.{◌≡◌, ◌≢◌, ◌+◌, ℕ, List, ◌∷◌, length, refl, sym, ap, ◌∙◌, arith}
 use Rattle.scram_text.proofs.ClientFirstUnique.{spelled_once}
 use Rattle.scram_text.specs.ClientFinalAnswers.{RefusesClientFinal}
 use Rattle.scram_text.specs.ClientFinals.{client_final_text}

@@ -3,7 +3,6 @@ use Rattle.std.proofs.Common.{◌≡◌, ℕ, ◌<◌, Bool, true, false, nat_lt
 use Rattle.std.specs.Prelude.{if◌then◌else◌}
 use Rattle.std.specs.Option.{option_and_then, option_map_or}
 use Rattle.std.proofs.lemmas.Bool.Decides.{nat_tests}
-use Rattle.arrayvec.specs.ArrayVec.{ArrayVec}
 use Rattle.cred_store.specs.declared.entry.Entry.{Entry}
 use Rattle.digest_fields.specs.Credentials.{Credentials}
 use Rattle.http_wire.specs.declared.request.Request.{Request}
@@ -39,6 +38,7 @@ use Rattle.auth_decide.specs.declared.scram_message.FirstMessage.{FirstMessage}
 use Rattle.auth_decide.specs.declared.scram_message.ScramMessage.{ScramMessage}
 use Rattle.auth_decide.specs.declared.scram_message.ScramMessage.TheVariants as message
 use Rattle.auth_decide.specs.Stages.{admitted_stage, again_stage, candidate_stage, challenge_stage, digest_stage, final_stage, keeping_stage, keyed_stage, message_stage, mode_stage, name_within, presented_stage, proved_stage, response_stage, reusing_stage, right_stage, scram_stage, stage_after_issue, stage_after_keep, stage_after_open, stage_after_peek, stage_after_recall, stage_after_reply, stage_after_reuse, stage_after_take, stage_after_use, stage_after_words, taken_stage, takes_realm}
+use Rattle.auth_decide.specs.VerifiedCredentials.{VerifiedCredentials, verified}
 use Rattle.auth_decide.specs.declared.candidate.Candidate.{Candidate}
 use Rattle.auth_decide.specs.declared.credentials.Presented.{Presented}
 use Rattle.auth_decide.specs.declared.credentials.Presented.TheVariants as presents
@@ -65,7 +65,7 @@ within_named shards (Some nonce) = by (nat_lt nonce.shard shards) refl
 response_within : (shards : ℕ) (request : Request) (c : Candidate) (prime : List ℕ) (o : Option TableName) → NamesWithin shards o → AsksWithin shards (response_stage request c prime o)
 response_within shards request c prime o named = by (is_right request c prime) o named
   where
-    by : (right : Bool) (o : Option TableName) → NamesWithin shards o → AsksWithin shards (if right then right_stage c prime o else challenge_stage false)
+    by : (right : Bool) (o : Option TableName) → NamesWithin shards o → AsksWithin shards (if right then right_stage (verified c prime) o else challenge_stage false)
     by true None named = tt
     by true (Some nonce) named = named
     by false o named = tt
@@ -196,7 +196,7 @@ pub words_within : (shards : ℕ) (s : Stage) (words : List ℕ) → AsksWithin 
 words_within shards (stage.Drawing purpose) words within = tt
 words_within shards (stage.Issuing purpose drawn) words within = tt
 words_within shards (stage.Peeking c nonce) words within = tt
-words_within shards (stage.Using c prime nonce) words within = tt
+words_within shards (stage.Using v nonce) words within = tt
 words_within shards (stage.Beginning e) words within = tt
 words_within shards (stage.Opening e drawn) words within = tt
 words_within shards (stage.Taking a) words within = tt
@@ -211,20 +211,20 @@ peek_within shards request c nonce (reply.Prime None) named = response_within sh
 peek_within shards request c nonce reply.Gone named = response_within shards request c c.credentials.cnonce None tt
 peek_within shards request c nonce _ named = tt
 
-admitted_within : (shards : ℕ) (c : Candidate) (prime : ArrayVec ℕ) (uses : ℕ) → AsksWithin shards (admitted_stage c prime uses)
-admitted_within shards c prime uses = by (nat_lt uses NEXT_NONCE_USES)
+admitted_within : (shards : ℕ) (v : VerifiedCredentials) (uses : ℕ) → AsksWithin shards (admitted_stage v uses)
+admitted_within shards v uses = by (nat_lt uses NEXT_NONCE_USES)
   where
-    by : (few : Bool) → AsksWithin shards (if few then stage.Admitted c prime else stage.Drawing (Next c prime))
+    by : (few : Bool) → AsksWithin shards (if few then stage.Admitted v else stage.Drawing (Next v))
     by true = tt
     by false = tt
 
-use_within : (shards : ℕ) (c : Candidate) (prime : ArrayVec ℕ) (r : Reply) → AsksWithin shards (stage_after_use c prime r)
-use_within shards c prime (reply.Fresh uses) = admitted_within shards c prime uses
-use_within shards c prime reply.Gone = tt
-use_within shards c prime (reply.Behind high) = tt
-use_within shards c prime reply.Repeated = tt
-use_within shards c prime reply.OtherSession = tt
-use_within shards c prime _ = tt
+use_within : (shards : ℕ) (v : VerifiedCredentials) (r : Reply) → AsksWithin shards (stage_after_use v r)
+use_within shards v (reply.Fresh uses) = admitted_within shards v uses
+use_within shards v reply.Gone = tt
+use_within shards v (reply.Behind high) = tt
+use_within shards v reply.Repeated = tt
+use_within shards v reply.OtherSession = tt
+use_within shards v _ = tt
 
 issue_within : (shards : ℕ) (purpose : Purpose) (words : List ℕ) (r : Reply) → AsksWithin shards (stage_after_issue shards purpose words r)
 issue_within shards purpose words (reply.Issued serial) = tt
@@ -299,7 +299,7 @@ reuse_within shards user _ = tt
 pub reply_within : (shards : ℕ) (request : Request) (store : List Entry) (s : Stage) (r : Reply) → AsksWithin shards s → AsksWithin shards (stage_after_reply request store shards s r)
 reply_within shards request store (stage.Issuing purpose words) r within = issue_within shards purpose words r
 reply_within shards request store (stage.Peeking c nonce) r within = peek_within shards request c nonce r within
-reply_within shards request store (stage.Using c prime nonce) r within = use_within shards c prime r
+reply_within shards request store (stage.Using v nonce) r within = use_within shards v r
 reply_within shards request store (stage.Opening e words) r within = open_within shards e words r
 reply_within shards request store (stage.Taking a) r within = take_within shards store a r within
 reply_within shards request store (stage.Keeping user) r within = keep_within shards user r

@@ -1,5 +1,5 @@
 -- What each stage of a decision asks, and how it ends.
-use Rattle.std.specs.Prelude.{ℕ, false, if◌then◌else◌, List, [], Option, Some, None}
+use Rattle.std.specs.Prelude.{ℕ, if◌then◌else◌, List, [], Option, Some, None}
 use Rattle.auth_grammar.specs.declared.items.Role.{Role}
 use Rattle.arrayvec.specs.ArrayVec.{ArrayVec}
 use Rattle.digest_fields.specs.Nc.{nc_number}
@@ -12,7 +12,7 @@ use Rattle.spaces_map.specs.declared.space.Space.{Space}
 use Rattle.auth_decide.specs.Challenges.{continue_item, items_of, nonce_kind}
 use Rattle.auth_decide.specs.Infos.{proof_of, scram_proof_of}
 use Rattle.auth_decide.specs.Stages.{Answer, Question, protection_space, shard_for, stage_at}
-use Rattle.auth_decide.specs.declared.candidate.Candidate.{Candidate}
+use Rattle.auth_decide.specs.VerifiedCredentials.{VerifiedCredentials}
 use Rattle.auth_decide.specs.declared.challenges.Stale.TheVariants as stale
 use Rattle.auth_decide.specs.declared.scram_exchange.NewExchange.{NewExchange}
 use Rattle.auth_decide.specs.declared.scram_exchange.ScramUser.{ScramUser}
@@ -34,12 +34,12 @@ abbrev pub peek : ℕ → Space → TableName → Call
 peek moment space nonce = record { moment = moment; what = Peek nonce space.number }
 
 -- A use gives the client's nonce that began the session, and none for another kind.
-abbrev pub given_prime : Candidate → ArrayVec ℕ → Option (ArrayVec ℕ)
-given_prime c prime = if c.credentials.kind.session then Some prime else None
+abbrev pub given_prime : VerifiedCredentials → Option (ArrayVec ℕ)
+given_prime v = if v.candidate.credentials.kind.session then Some v.prime else None
 
-abbrev pub use_of : ℕ → Space → TableName → Candidate → ArrayVec ℕ → Call
-use_of moment space nonce c prime =
-    record { moment = moment; what = Use nonce kind.Digest space.number (nc_number c.credentials.nc) (given_prime c prime) }
+abbrev pub use_of : ℕ → Space → TableName → VerifiedCredentials → Call
+use_of moment space nonce v =
+    record { moment = moment; what = Use nonce kind.Digest space.number (nc_number v.candidate.credentials.nc) (given_prime v) }
 
 -- a new exchange
 abbrev pub open_of : ℕ → Space → NewExchange → List ℕ → Call
@@ -63,14 +63,14 @@ reuse_of moment space sr count = record { moment = moment; what = Use sr kind.Sc
 abbrev pub scram_admission : ScramUser → VerdictValue
 scram_admission user = Admit user.name (scram_proof_of user)
 
-abbrev pub admission : Candidate → ArrayVec ℕ → Option (List ℕ) → VerdictValue
-admission c prime next = Admit c.user (proof_of c prime.items next)
+abbrev pub admission : VerifiedCredentials → Option (List ℕ) → VerdictValue
+admission v next = Admit v.candidate.user (proof_of v next)
 
 -- what a new nonce of this text is for
 abbrev pub verdict_with : Role → Space → Purpose → List ℕ → VerdictValue
 verdict_with role space purpose.Offer nonce = Open (items_of role space nonce stale.Nothing)
 verdict_with role space (purpose.Challenge s) nonce = Challenge (items_of role space nonce s)
-verdict_with role space (purpose.Next c prime) nonce = admission c prime (Some nonce)
+verdict_with role space (purpose.Next v) nonce = admission v (Some nonce)
 
 -- ---- asks
 
@@ -81,8 +81,8 @@ ask_at role moment shards space (stage.Drawing purpose) = Draw
 ask_at role moment shards space (stage.Issuing purpose words) = Table (shard_for shards words) (issue moment space words)
 ask_at role moment shards space (stage.Issued purpose nonce) = Verdict (verdict_with role space purpose (name_text nonce))
 ask_at role moment shards space (stage.Peeking c nonce) = Table nonce.shard (peek moment space nonce)
-ask_at role moment shards space (stage.Using c prime nonce) = Table nonce.shard (use_of moment space nonce c prime)
-ask_at role moment shards space (stage.Admitted c prime) = Verdict (admission c prime None)
+ask_at role moment shards space (stage.Using v nonce) = Table nonce.shard (use_of moment space nonce v)
+ask_at role moment shards space (stage.Admitted v) = Verdict (admission v None)
 ask_at role moment shards space (stage.Beginning e) = Draw
 ask_at role moment shards space (stage.Opening e words) = Table (shard_for shards words) (open_of moment space e words)
 ask_at role moment shards space (stage.Continued e sid) = Verdict (Continue (continue_item e sid))

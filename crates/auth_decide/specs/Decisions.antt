@@ -51,7 +51,7 @@ Draws _ = ⊥
 abbrev pub Calls : Stage → Type 0
 Calls (Issuing purpose words) = Unit {0}
 Calls (Peeking c nonce) = Unit {0}
-Calls (Using c prime nonce) = Unit {0}
+Calls (Using v nonce) = Unit {0}
 Calls (Opening e words) = Unit {0}
 Calls (Taking a) = Unit {0}
 Calls (Keeping user) = Unit {0}
@@ -67,7 +67,7 @@ IsWithin shards (Some name) = name.shard < shards
 -- a stage that asks one of so many shards, for a count from 1 on
 abbrev pub AsksWithin : ℕ → Stage → Type 0
 AsksWithin shards (Peeking c nonce) = nonce.shard < shards
-AsksWithin shards (Using c prime nonce) = nonce.shard < shards
+AsksWithin shards (Using v nonce) = nonce.shard < shards
 AsksWithin shards (Taking a) = a.sid.shard < shards
 AsksWithin shards (Keeping user) = user.sid.shard < shards
 AsksWithin shards (Recalling a again) = (a.sid.shard < shards) × IsWithin shards again.sr × (0 < again.count)
@@ -77,7 +77,7 @@ AsksWithin shards _ = ⊤
 -- how many asks may come at most, from a stage on
 abbrev pub asks_left : Stage → ℕ
 asks_left (Peeking c nonce) = 4
-asks_left (Using c prime nonce) = 3
+asks_left (Using v nonce) = 3
 asks_left (Recalling a again) = 4
 asks_left (Taking a) = 3
 asks_left (Reusing user sr count) = 3

@@ -2,7 +2,6 @@
 -- RFC 7804 section 5).
 use Rattle.std.specs.Prelude.{ℕ, ◌%◌, Bool, true, false, nat_lt, nat_eq, bytes_eq, if◌then◌else◌, List, fold, Option, Some, None, slice_index}
 use Rattle.std.specs.List.{ends_with}
-use Rattle.arrayvec.specs.ArrayVec.{ArrayVec}
 use Rattle.auth_grammar.specs.declared.items.Role.{Role}
 use Rattle.auth_grammar.specs.declared.items.Role.TheVariants.{Origin, Proxy}
 use Rattle.cred_store.specs.LookUps.{scram_of}
@@ -25,6 +24,7 @@ use Rattle.auth_decide.specs.Credentials.{presented}
 use Rattle.auth_decide.specs.Exchanges.{new_exchange, recalled_user, taken_user}
 use Rattle.auth_decide.specs.Paths.{correspond, path_of, root_path}
 use Rattle.auth_decide.specs.Responses.{is_right}
+use Rattle.auth_decide.specs.VerifiedCredentials.{VerifiedCredentials, verified}
 use Rattle.auth_decide.specs.declared.candidate.Candidate.{Candidate}
 use Rattle.auth_decide.specs.declared.challenges.Stale.TheVariants as stale
 use Rattle.auth_decide.specs.declared.credentials.Presented.{Presented}
@@ -84,13 +84,13 @@ abbrev pub challenge_stage : Bool → Stage
 challenge_stage is = Drawing (Challenge (if is then stale.Digest else stale.Nothing))
 
 -- a right response, whose count is used where the table may have the nonce
-abbrev pub right_stage : Candidate → List ℕ → Option TableName → Stage
-right_stage c prime None = challenge_stage true
-right_stage c prime (Some nonce) = Using c (record { items = prime }) nonce
+abbrev pub right_stage : VerifiedCredentials → Option TableName → Stage
+right_stage v None = challenge_stage true
+right_stage v (Some nonce) = Using v nonce
 
 -- The response is checked before anything is marked.
 abbrev pub response_stage : Request → Candidate → List ℕ → Option TableName → Stage
-response_stage request c prime name = if is_right request c prime then right_stage c prime name else challenge_stage false
+response_stage request c prime name = if is_right request c prime then right_stage (verified c prime) name else challenge_stage false
 
 -- ---- the first stage
 
@@ -193,7 +193,7 @@ stage_after_words (Drawing purpose) words = Issuing purpose words
 stage_after_words (Beginning e) words = Opening e words
 stage_after_words (Issuing purpose drawn) words = Mismatched
 stage_after_words (Peeking c nonce) words = Mismatched
-stage_after_words (Using c prime nonce) words = Mismatched
+stage_after_words (Using v nonce) words = Mismatched
 stage_after_words (Opening e drawn) words = Mismatched
 stage_after_words (Taking a) words = Mismatched
 stage_after_words (Keeping user) words = Mismatched
@@ -220,16 +220,16 @@ stage_after_peek request c nonce reply.Gone = response_stage request c c.credent
 stage_after_peek request c nonce _ = Mismatched
 
 -- From so many uses of a nonce on, the next nonce is offered (`nextnonce`, RFC 7616 section 3.5).
-abbrev pub admitted_stage : Candidate → ArrayVec ℕ → ℕ → Stage
-admitted_stage c prime uses = if nat_lt uses NEXT_NONCE_USES then Admitted c prime else Drawing (Next c prime)
+abbrev pub admitted_stage : VerifiedCredentials → ℕ → Stage
+admitted_stage v uses = if nat_lt uses NEXT_NONCE_USES then Admitted v else Drawing (Next v)
 
-abbrev pub stage_after_use : Candidate → ArrayVec ℕ → Reply → Stage
-stage_after_use c prime (reply.Fresh uses) = admitted_stage c prime uses
-stage_after_use c prime reply.Gone = challenge_stage true
-stage_after_use c prime (reply.Behind high) = challenge_stage true
-stage_after_use c prime reply.Repeated = challenge_stage true
-stage_after_use c prime reply.OtherSession = challenge_stage false
-stage_after_use c prime _ = Mismatched
+abbrev pub stage_after_use : VerifiedCredentials → Reply → Stage
+stage_after_use v (reply.Fresh uses) = admitted_stage v uses
+stage_after_use v reply.Gone = challenge_stage true
+stage_after_use v (reply.Behind high) = challenge_stage true
+stage_after_use v reply.Repeated = challenge_stage true
+stage_after_use v reply.OtherSession = challenge_stage false
+stage_after_use v _ = Mismatched
 
 -- ---- exchanges
 
@@ -281,7 +281,7 @@ stage_after_reuse user _ = Mismatched
 abbrev pub stage_after_reply : Request → List Entry → ℕ → Stage → Reply → Stage
 stage_after_reply request store shards (Issuing purpose words) r = stage_after_issue shards purpose words r
 stage_after_reply request store shards (Peeking c nonce) r = stage_after_peek request c nonce r
-stage_after_reply request store shards (Using c prime nonce) r = stage_after_use c prime r
+stage_after_reply request store shards (Using v nonce) r = stage_after_use v r
 stage_after_reply request store shards (Opening e words) r = stage_after_open shards e words r
 stage_after_reply request store shards (Taking a) r = stage_after_take store a r
 stage_after_reply request store shards (Keeping user) r = stage_after_keep user r

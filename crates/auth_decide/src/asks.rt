@@ -6,12 +6,13 @@ ghost use Rattle.nonce_shard.specs.Names.{name_text};
 ghost use Rattle.auth_decide.specs.Asks.{issue, peek, given_prime, use_of, open_of, take_of, keep_of, recall_of, reuse_of, scram_admission, admission, verdict_with, ask_at};
 ghost use Rattle.auth_decide.specs.Decisions.{AsksWithin, FitsTable};
 
-use crate::candidate::{Candidate, prime_of};
+use crate::candidate::prime_of;
 use crate::challenges::{Stale, continue_item, items_of, nonce_kind};
 use crate::info::{proof_of, scram_proof_of};
 use crate::scram_exchange::{NewExchange, ScramUser, exchange_copy};
 use crate::stages::{Purpose, Stage};
 use crate::verdict::{Ask, Verdict};
+use crate::verified::Verified;
 use auth_grammar::{ItemList, OutOfMemory, Role};
 use nonce_shard::{Call, NonceKind, Prime, TableName, What};
 use spaces_map::Space;
@@ -43,24 +44,18 @@ fn peek(moment: u64, space: &Space, nonce: TableName) -> Call
 }
 
 /// The prime that a use gives: that of the session, and none for another kind.
-fn given_prime(candidate: &Candidate, prime: &Prime) -> Option<Prime>
-    ensures { result ≡ given_prime candidate.now prime.now }
+fn given_prime(verified: &Verified) -> Option<Prime>
+    ensures { result ≡ given_prime verified.now }
 {
-    if candidate.credentials.kind.session {
-        Some(prime_of(prime.as_slice()))
+    if verified.candidate.credentials.kind.session {
+        Some(prime_of(verified.prime.as_slice()))
     } else {
         None
     }
 }
 
-fn use_of(
-    moment: u64,
-    space: &Space,
-    nonce: TableName,
-    candidate: &Candidate,
-    prime: &Prime,
-) -> Call
-    ensures call { result ≡ use_of moment space.now nonce candidate.now prime.now }
+fn use_of(moment: u64, space: &Space, nonce: TableName, verified: &Verified) -> Call
+    ensures call { result ≡ use_of moment space.now nonce verified.now }
     ensures fits { Fits result.what }
 {
     Call {
@@ -69,8 +64,8 @@ fn use_of(
             nonce,
             kind: NonceKind::Digest,
             space: space.number,
-            count: candidate.credentials.nc.number(),
-            prime: given_prime(candidate, prime),
+            count: verified.candidate.credentials.nc.number(),
+            prime: given_prime(verified),
         },
     }
 }
@@ -150,16 +145,12 @@ fn scram_admission(user: &ScramUser) -> Result<Verdict, OutOfMemory>
     })
 }
 
-fn admission(
-    candidate: &Candidate,
-    prime: &Prime,
-    next: Option<[u8; 36]>,
-) -> Result<Verdict, OutOfMemory>
-    ensures { IfOk result (λ verdict. verdict ≡ admission candidate.now prime.now next) }
+fn admission(verified: &Verified, next: Option<[u8; 36]>) -> Result<Verdict, OutOfMemory>
+    ensures { IfOk result (λ verdict. verdict ≡ admission verified.now next) }
 {
     Ok(Verdict::Admit {
-        user: candidate.user.copy()?,
-        proof: proof_of(candidate, prime.as_slice(), next)?,
+        user: verified.candidate.user.copy()?,
+        proof: proof_of(verified, next)?,
     })
 }
 
@@ -182,7 +173,7 @@ fn verdict_with(
         Purpose::Challenge { stale } => Ok(Verdict::Challenge {
             items: items_of(alloc, role, space, &text, *stale)?,
         }),
-        Purpose::Next(candidate, prime) => admission(candidate, prime, Some(text)),
+        Purpose::Next(verified) => admission(verified, Some(text)),
     }
 }
 
@@ -216,11 +207,11 @@ pub(crate) fn ask_at(
             shard: nonce.shard,
             call: peek(moment, space, *nonce),
         }),
-        Stage::Using(candidate, prime, nonce) => Ok(Ask::Table {
+        Stage::Using(verified, nonce) => Ok(Ask::Table {
             shard: nonce.shard,
-            call: use_of(moment, space, *nonce, candidate, prime),
+            call: use_of(moment, space, *nonce, verified),
         }),
-        Stage::Admitted(candidate, prime) => Ok(Ask::Verdict(admission(candidate, prime, None)?)),
+        Stage::Admitted(verified) => Ok(Ask::Verdict(admission(verified, None)?)),
         Stage::Beginning(_) => Ok(Ask::Draw),
         Stage::Opening(new, words) => Ok(Ask::Table {
             shard: u16::from(words[0]) % shards,

@@ -5,29 +5,21 @@ ghost use Rattle.scram_text.specs.ServerFinals.{server_final_text, signed};
 ghost use Rattle.auth_decide.specs.Challenges.{param};
 ghost use Rattle.auth_decide.specs.Infos.{info_of, next_param, proof_of, scram_info, scram_proof_of};
 
-use crate::candidate::Candidate;
+use crate::basis::ResponseBasis;
 use crate::challenges::param;
-use crate::response::response_secret;
 use crate::scram_exchange::{ScramUser, push_base64};
+use crate::verified::Verified;
 use auth_grammar::{Octets, OutOfMemory, ParamList};
-use auth_hash::{Algorithm, HexText, Qop};
-use digest_fields::Nc;
-use digest_formulas::rspauth;
 use std::alloc::Global;
 use std::fmt;
 
 /// What the server proves in `Authentication-Info` (RFC 7616 section 3.5, RFC 7804 section 5). `Debug` prints none of it.
 #[derive(Drop)]
 pub enum Proof {
-    /// By Digest: what the request's response was computed with.
+    /// By Digest.
     Digest {
-        alg: Algorithm,
-        /// The secret, for a session variant the session's.
-        secret: HexText,
-        nonce: Octets,
-        nc: Nc,
-        cnonce: Octets,
-        qop: Qop,
+        /// What the request's response was computed with.
+        basis: ResponseBasis,
         /// The target, as the credentials have it.
         uri: Octets,
         /// The nonce that the client should use next, where one is offered.
@@ -50,22 +42,12 @@ impl fmt::Debug for Proof {
 }
 
 /// What the server proves to an admitted client.
-pub(crate) fn proof_of(
-    candidate: &Candidate,
-    prime: &[u8],
-    next: Option<[u8; 36]>,
-) -> Result<Proof, OutOfMemory>
-    ensures { IfOk result (λ proof. proof ≡ proof_of candidate.now prime.now next) }
+pub(crate) fn proof_of(verified: &Verified, next: Option<[u8; 36]>) -> Result<Proof, OutOfMemory>
+    ensures { IfOk result (λ proof. proof ≡ proof_of verified.now next) }
 {
-    let credentials = &candidate.credentials;
     Ok(Proof::Digest {
-        alg: credentials.kind.alg,
-        secret: response_secret(candidate, prime),
-        nonce: credentials.nonce.copy()?,
-        nc: credentials.nc,
-        cnonce: credentials.cnonce.copy()?,
-        qop: credentials.qop,
-        uri: credentials.uri.copy()?,
+        basis: ResponseBasis::of(verified)?,
+        uri: verified.candidate.credentials.uri.copy()?,
         next,
     })
 }
@@ -76,31 +58,13 @@ impl Proof {
         ensures { IfOk result (λ params. params ≡ info_of self.now body.now) }
     {
         match self {
-            Proof::Digest {
-                alg,
-                secret,
-                nonce,
-                nc,
-                cnonce,
-                qop,
-                uri,
-                next,
-            } => {
-                let value = rspauth(
-                    *alg,
-                    secret,
-                    nonce.bytes(),
-                    &nc.text,
-                    cnonce.bytes(),
-                    *qop,
-                    uri.bytes(),
-                    body,
-                );
+            Proof::Digest { basis, uri, next } => {
+                let value = basis.rspauth(uri.bytes(), body);
                 let params = next_params(alloc, next)?;
-                let params = with_param(alloc, params, b"qop", qop.name())?;
+                let params = with_param(alloc, params, b"qop", basis.qop.name())?;
                 let params = with_param(alloc, params, b"rspauth", value.bytes())?;
-                let params = with_param(alloc, params, b"cnonce", cnonce.bytes())?;
-                with_param(alloc, params, b"nc", &nc.text)
+                let params = with_param(alloc, params, b"cnonce", basis.cnonce.bytes())?;
+                with_param(alloc, params, b"nc", &basis.nc.text)
             }
             Proof::Scram { sid, signature } => scram_info(alloc, sid, signature),
         }

@@ -5,6 +5,7 @@
 #![tactic(auto)]
 
 mod asks;
+mod basis;
 mod candidate;
 mod challenges;
 mod credentials;
@@ -19,7 +20,9 @@ mod scram_stages;
 mod site;
 mod stages;
 mod verdict;
+mod verified;
 
+pub use basis::ResponseBasis;
 pub use candidate::Candidate;
 pub use challenges::Stale;
 pub use credentials::{CredentialsField, Presented, RequestCredentials, credentials_field};
@@ -31,3 +34,4 @@ pub use scram_message::{Again, FinalMessage, FirstMessage, ScramMessage};
 pub use site::Site;
 pub use stages::{NEXT_NONCE_USES, Purpose, Stage};
 pub use verdict::{Ask, Verdict, Why};
+pub use verified::Verified;

@@ -1,10 +1,11 @@
 //! Whether a response is right.
-ghost use Rattle.std.specs.Prelude.{◌≡◌};
+ghost use Rattle.std.specs.Prelude.{◌≡◌, ℕ, List};
 ghost use Rattle.auth_decide.specs.Responses.{response_secret, is_right};
+ghost use Rattle.auth_decide.specs.VerifiedCredentials.{IsHashOf};
 
 use crate::candidate::Candidate;
 use auth_hash::HexText;
-use digest_formulas::{response, session_ha1};
+use digest_formulas::{ResponseHash, session_ha1};
 use http_wire::Request;
 
 /// The secret that the response is computed with: of a session, that of the nonce and the client's nonce that began
@@ -25,18 +26,29 @@ pub(crate) fn response_secret(candidate: &Candidate, prime: &[u8]) -> HexText
     }
 }
 
-/// Whether the response is the standard's value (RFC 7616 section 3.4.1). With `auth-int` the body is hashed.
-pub(crate) fn is_right(request: &Request, candidate: &Candidate, prime: &[u8]) -> bool
-    ensures { result ≡ is_right request.now candidate.now prime.now }
+/// A hash that has taken what the response begins with, by this secret.
+pub(crate) fn response_hash(candidate: &Candidate, secret: &HexText) -> ResponseHash
+    ensures { IsHashOf result candidate.now secret.now }
 {
     let credentials = &candidate.credentials;
-    let value = response(
+    ResponseHash::new(
         credentials.kind.alg,
-        &response_secret(candidate, prime),
+        secret,
         credentials.nonce.bytes(),
         &credentials.nc.text,
         credentials.cnonce.bytes(),
         credentials.qop,
+    )
+}
+
+/// Whether the response is the standard's value (RFC 7616 section 3.4.1), by its hash. With `auth-int` the body is
+/// hashed.
+pub(crate) fn is_right(request: &Request, candidate: &Candidate, hash: &ResponseHash) -> bool
+    ensures { (prime : List ℕ) → IsHashOf hash.now candidate.now (response_secret candidate.now prime)
+        → result ≡ is_right request.now candidate.now prime }
+{
+    let credentials = &candidate.credentials;
+    let value = hash.response(
         request.method.bytes(),
         credentials.uri.bytes(),
         request.body.bytes(),

@@ -8,7 +8,6 @@ use crate::candidate::{Candidate, candidate_of, prime_of};
 use crate::challenges::Stale;
 use crate::credentials::{Presented, RequestCredentials};
 use crate::paths::correspond;
-use crate::response::is_right;
 use crate::scram_exchange::{Attempt, NewExchange, ScramUser};
 use crate::scram_message::Again;
 use crate::scram_stages::{
@@ -16,6 +15,7 @@ use crate::scram_stages::{
     stage_after_take,
 };
 use crate::verdict::Why;
+use crate::verified::Verified;
 use auth_grammar::OutOfMemory;
 use cred_store::Store;
 use digest_fields::DigestCredentials;
@@ -35,8 +35,8 @@ pub enum Purpose {
     Offer,
     /// It stands in a challenge, which says whether the nonce before it was stale.
     Challenge { stale: Stale },
-    /// It is the one to use next, after these credentials were admitted. The prime counts for a session alone.
-    Next(Candidate, Prime),
+    /// It is the one to use next, after these credentials were admitted.
+    Next(Verified),
 }
 
 impl fmt::Debug for Purpose {
@@ -44,7 +44,7 @@ impl fmt::Debug for Purpose {
         f.write_str(match self {
             Purpose::Offer => "Offer",
             Purpose::Challenge { .. } => "Challenge { ... }",
-            Purpose::Next(..) => "Next(...)",
+            Purpose::Next(_) => "Next(...)",
         })
     }
 }
@@ -64,10 +64,10 @@ pub enum Stage {
     Issued(Purpose, TableName),
     /// The client's nonce that began the session of this nonce is looked up.
     Peeking(Candidate, TableName),
-    /// The response is right, by this client's nonce where it is of a session, and the count of the nonce is used.
-    Using(Candidate, Prime, TableName),
+    /// The response is right, and the count of the nonce is used.
+    Using(Verified, TableName),
     /// The count was new.
-    Admitted(Candidate, Prime),
+    Admitted(Verified),
     /// Random words are drawn for a new exchange.
     Beginning(NewExchange),
     /// The exchange of these words is opened.
@@ -98,7 +98,7 @@ impl fmt::Debug for Stage {
             Stage::Issued(..) => "Issued(...)",
             Stage::Peeking(..) => "Peeking(...)",
             Stage::Using(..) => "Using(...)",
-            Stage::Admitted(..) => "Admitted(...)",
+            Stage::Admitted(_) => "Admitted(...)",
             Stage::Beginning(_) => "Beginning(...)",
             Stage::Opening(..) => "Opening(...)",
             Stage::Continued(..) => "Continued(...)",
@@ -120,6 +120,16 @@ pub(crate) fn challenge_stage(stale: bool) -> Stage
     Stage::Drawing(Purpose::Challenge { stale })
 }
 
+/// The stage by a right response, whose nonce may be none that the table can have.
+fn right_stage(verified: Verified, nonce: Option<TableName>) -> Stage
+    ensures { result ≡ right_stage verified nonce }
+{
+    match nonce {
+        Some(name) => Stage::Using(verified, name),
+        None => challenge_stage(true),
+    }
+}
+
 /// The stage by the response, which is checked before anything is marked.
 fn response_stage(
     request: &Request,
@@ -129,11 +139,9 @@ fn response_stage(
 ) -> Stage
     ensures { result ≡ response_stage request.now candidate prime.items nonce }
 {
-    let right = is_right(request, &candidate, prime.as_slice());
-    match nonce {
-        Some(name) if right => Stage::Using(candidate, prime, name),
-        // Right, but of a nonce that the table can't have.
-        _ => challenge_stage(right),
+    match Verified::of(request, candidate, prime) {
+        Some(verified) => right_stage(verified, nonce),
+        None => challenge_stage(false),
     }
 }
 
@@ -281,22 +289,22 @@ fn stage_after_peek(
 }
 
 /// The count was new, and `uses` is how many counts of the nonce are used now.
-fn admitted_stage(candidate: Candidate, prime: Prime, uses: u32) -> Stage
-    ensures { result ≡ admitted_stage candidate prime uses }
+fn admitted_stage(verified: Verified, uses: u32) -> Stage
+    ensures { result ≡ admitted_stage verified uses }
 {
     if uses < NEXT_NONCE_USES {
-        Stage::Admitted(candidate, prime)
+        Stage::Admitted(verified)
     } else {
-        Stage::Drawing(Purpose::Next(candidate, prime))
+        Stage::Drawing(Purpose::Next(verified))
     }
 }
 
 /// The count was used.
-fn stage_after_use(candidate: Candidate, prime: Prime, reply: &Reply) -> Stage
-    ensures { result ≡ stage_after_use candidate prime reply.now }
+fn stage_after_use(verified: Verified, reply: &Reply) -> Stage
+    ensures { result ≡ stage_after_use verified reply.now }
 {
     let stale = match reply {
-        Reply::Fresh { uses } => return admitted_stage(candidate, prime, *uses),
+        Reply::Fresh { uses } => return admitted_stage(verified, *uses),
         Reply::Gone | Reply::Behind { .. } | Reply::Repeated => true,
         Reply::OtherSession => false,
         _ => return Stage::Mismatched,
@@ -320,7 +328,7 @@ pub(crate) fn stage_after_reply(
     match stage {
         Stage::Issuing(purpose, words) => Ok(stage_after_issue(shards, purpose, words, reply)),
         Stage::Peeking(candidate, nonce) => Ok(stage_after_peek(request, candidate, nonce, reply)),
-        Stage::Using(candidate, prime, _) => Ok(stage_after_use(candidate, prime, reply)),
+        Stage::Using(verified, _) => Ok(stage_after_use(verified, reply)),
         Stage::Opening(new, words) => Ok(stage_after_open(shards, new, words, reply)),
         Stage::Taking(attempt) => stage_after_take(alloc, store, &attempt, reply),
         Stage::Keeping(user) => Ok(stage_after_keep(user, reply)),

@@ -1,4 +1,4 @@
-use Rattle.std.proofs.Common.{◌<◌, ◌∙◌, Option, option_copied, ap, subst, sym, arith, rules}
+use Rattle.std.proofs.Common.{◌<◌, option_copied, subst, sym, arith, rules}
 use Rattle.auth_decide.specs.Decisions.{AsksWithin}
 use Rattle.auth_decide.specs.Messages.{scram_params}
 use Rattle.auth_decide.specs.declared.stages.Stage.{Stage}
