@@ -1,5 +1,5 @@
 -- What credentials of SCRAM-SHA-256 say, they say in one way.
-use Rattle.std.proofs.Common.{◌≡◌, ℕ, ◌<◌, ◌^◌, Bool, true, false, codes, List, ◌++◌, Option, Some, None, decimal, length, refl, sym, ap, ◌∙◌, subst, append_assoc, arith}
+use Rattle.std.proofs.Common.{◌≡◌, ℕ, ◌<◌, ◌^◌, Bool, true, false, codes, List, ◌++◌, Option, Some, None, decimal, refl, sym, ap, ◌∙◌, subst, append_assoc, arith}
 use Rattle.std.specs.Prelude.{nat_eq}
 use Rattle.std.specs.List.{starts_with}
 use Rattle.std.proofs.lemmas.Fmt.{decimal_injective}
@@ -11,10 +11,9 @@ use Rattle.nonce_shard.specs.declared.names.TableName.{TableName}
 use Rattle.scram_text.proofs.ReauthLaws.{decimal_digits, one_cut, same_ends}
 use Rattle.scram_text.specs.ClientFinals.{ClientFinalParts}
 use Rattle.scram_text.specs.Reauths.{IsReauth}
-use Rattle.auth_decide.specs.Messages.{DataSays, FinalSays, FirstSays, IsFinal, IsFirst, MissesSid, Names, SaysAgain, SaysMessage, TextSays, bytes_of, final_parts, first_message}
+use Rattle.auth_decide.specs.Messages.{DataSays, FinalSays, FirstSays, IsFinal, MissesSid, Names, SaysAgain, SaysMessage, TextSays, bytes_of, final_parts, first_message}
 use Rattle.auth_decide.specs.declared.scram_message.Again.{Again}
 use Rattle.auth_decide.specs.declared.scram_message.FinalMessage.{FinalMessage}
-use Rattle.auth_decide.specs.declared.scram_message.FirstMessage.{FirstMessage}
 use Rattle.auth_decide.specs.declared.scram_message.ScramMessage.{ScramMessage}
 use Rattle.auth_decide.specs.declared.scram_message.ScramMessage.TheVariants.{Absent, Malformed, WithoutSid, First, Final}
 

@@ -1,12 +1,11 @@
 -- What the one line of credentials of SCRAM-SHA-256 says.
-use Rattle.std.proofs.Common.{◌≡◌, ℕ, ◌<◌, Bool, true, false, codes, List, [], ◌∷◌, Option, Some, None, Result, Ok, Err, refl, sym, ap, ◌∙◌, subst}
+use Rattle.std.proofs.Common.{◌≡◌, ℕ, ◌<◌, Bool, true, false, codes, List, Option, Some, None, Result, Ok, Err, refl, sym, ap, ◌∙◌, subst}
 use Rattle.std.specs.Prelude.{bytes_eq, if◌then◌else◌, nat_eq}
 use Rattle.std.specs.List.{starts_with}
 use Rattle.std.specs.Option.{option_and_then}
 use Rattle.std.proofs.lemmas.Slice.Eq.{bytes_eq-Decides}
 use Rattle.auth_grammar.specs.Names.{lower, params_of, same_name, value_of}
 use Rattle.auth_grammar.specs.declared.items.Item.{Item}
-use Rattle.auth_grammar.specs.declared.items.Param.{Param}
 use Rattle.digest_fields.specs.Credentials.{Credentials, credentials_of}
 use Rattle.digest_fields.specs.declared.field.FieldError.{FieldError}
 use Rattle.nonce_shard.proofs.OneName.{names_one}
@@ -16,17 +15,15 @@ use Rattle.scram_text.specs.ClientFinals.{ClientFinalParts, SpellsClientFinal}
 use Rattle.spaces_map.specs.declared.space.Space.{Space}
 use Rattle.auth_decide.specs.Challenges.{offers_scram}
 use Rattle.auth_decide.specs.Credentials.{LinesSay, Reads, credentials_lines, other_scheme, presented, presented_digest}
-use Rattle.auth_decide.specs.Messages.{DataSays, FinalSays, IsFinal, MissesSid, Names, ParamsSay, SaysAgain, SaysMessage, TextSays, bytes_of, final_parts, scram_params, scram_scheme}
-use Rattle.auth_decide.specs.Stages.{Question, attempt_stage, final_stage, first_stage, first_stage_in, message_stage, name_within, presented_stage, protection_space, scram_stage, challenge_stage}
+use Rattle.auth_decide.specs.Messages.{DataSays, FinalSays, IsFinal, MissesSid, Names, ParamsSay, SaysAgain, SaysMessage, bytes_of, final_parts, scram_params, scram_scheme}
+use Rattle.auth_decide.specs.Stages.{Question, attempt_stage, final_stage, first_stage, first_stage_in, message_stage, presented_stage, protection_space, scram_stage, challenge_stage}
 use Rattle.auth_decide.specs.declared.credentials.CredentialsField.{CredentialsField}
 use Rattle.auth_decide.specs.declared.credentials.CredentialsField.TheVariants as field
-use Rattle.auth_decide.specs.declared.credentials.Presented.{Presented}
 use Rattle.auth_decide.specs.declared.credentials.Presented.TheVariants as presents
 use Rattle.auth_decide.specs.declared.scram_message.Again.{Again}
 use Rattle.auth_decide.specs.declared.scram_message.FinalMessage.{FinalMessage}
 use Rattle.auth_decide.specs.declared.scram_message.ScramMessage.{ScramMessage}
 use Rattle.auth_decide.specs.declared.scram_message.ScramMessage.TheVariants as message
-use Rattle.auth_decide.specs.declared.stages.Stage.{Stage}
 use Rattle.auth_decide.specs.declared.verdict.Why.TheVariants as why
 use Rattle.admission.specs.Exchanges.{BringsFinal}
 use Rattle.admission.proofs.Exact.{below}

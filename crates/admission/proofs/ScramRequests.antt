@@ -1,8 +1,7 @@
 -- Who is admitted by SCRAM-SHA-256.
-use Rattle.std.proofs.Common.{◌≡◌, ◌⊎◌, inl, inr, ℕ, ◌<◌, Bool, true, false, true≢false, nat_lt, List, [], ◌∷◌, ◌++◌, length, decimal, Option, Some, None, refl, sym, ap, ◌∙◌, subst, append_assoc, arith}
+use Rattle.std.proofs.Common.{◌≡◌, ◌⊎◌, inl, inr, ℕ, ◌<◌, Bool, true, false, nat_lt, List, [], ◌∷◌, Option, Some, None, refl, sym, ap, ◌∙◌, subst}
 use Rattle.std.specs.Prelude.{if◌then◌else◌, nat_eq}
 use Rattle.std.specs.List.{ends_with}
-use Rattle.std.proofs.lemmas.Bool.Decides.{nat_tests}
 use Rattle.cred_store.specs.LookUps.{scram_of}
 use Rattle.nonce_shard.proofs.OneName.{names_one}
 use Rattle.nonce_shard.specs.Names.{IsName, name_text}
@@ -10,37 +9,32 @@ use Rattle.nonce_shard.specs.declared.calls.Exchange.{Exchange}
 use Rattle.nonce_shard.specs.declared.names.TableName.{TableName}
 use Rattle.nonce_shard.specs.declared.sizes.Sizes.{Sizes}
 use Rattle.scram_proof.specs.declared.keys.ScramKeys.{ScramKeys}
-use Rattle.scram_text.specs.Reauths.{IsReauth}
 use Rattle.spaces_map.specs.declared.space.Space.{Space}
 use Rattle.auth_decide.proofs.Within.{taken_sid}
-use Rattle.auth_decide.specs.Asks.{asked, keep_of, recall_of, reuse_of, take_of}
+use Rattle.auth_decide.specs.Asks.{keep_of, recall_of, reuse_of, take_of}
 use Rattle.auth_decide.specs.Challenges.{offers_scram}
 use Rattle.auth_decide.specs.Credentials.{Reads, credentials_lines, presented}
-use Rattle.auth_decide.specs.Exchanges.{taken_user}
 use Rattle.auth_decide.specs.Messages.{Names, SaysAgain}
 use Rattle.auth_decide.specs.Stages.{Question, again_stage, attempt_stage, challenge_stage, final_stage, first_stage, keyed_stage, message_stage, name_within, protection_space, scram_stage, takes_realm}
 use Rattle.auth_decide.specs.declared.credentials.Presented.TheVariants as presents
-use Rattle.auth_decide.specs.declared.scram_exchange.ScramUser.{ScramUser}
 use Rattle.auth_decide.specs.declared.scram_message.Again.{Again}
 use Rattle.auth_decide.specs.declared.scram_message.FinalMessage.{FinalMessage}
 use Rattle.auth_decide.specs.declared.scram_message.FirstMessage.{FirstMessage}
 use Rattle.auth_decide.specs.declared.scram_message.ScramMessage.{ScramMessage}
 use Rattle.auth_decide.specs.declared.scram_message.ScramMessage.TheVariants as message
-use Rattle.auth_decide.specs.declared.stages.Stage.{Stage}
 use Rattle.auth_decide.specs.declared.stages.Stage.TheVariants as stage
-use Rattle.auth_decide.specs.declared.verdict.Ask.TheVariants as asks
 use Rattle.auth_decide.specs.declared.verdict.Verdict.{Verdict}
 use Rattle.auth_decide.specs.declared.verdict.Verdict.TheVariants.{Bad}
 use Rattle.auth_decide.specs.declared.verdict.Why.TheVariants as why
-use Rattle.admission.specs.Exchanges.{AdmitsAgain, AdmitsByTry, BringsFinal, CountsAgain, EndsKept, EndsReused, Gives, IsScramAdmitted, IsSrGood, Proves, ProvesFirst, Recalled}
+use Rattle.admission.specs.Exchanges.{AdmitsAgain, AdmitsByTry, CountsAgain, EndsKept, EndsReused, Gives, IsScramAdmitted, IsSrGood, Proves, ProvesFirst, Recalled}
 use Rattle.admission.specs.Outcomes.{Admits}
-use Rattle.admission.specs.Steps.{Step, Called, AreAsked, answers_of}
+use Rattle.admission.specs.Steps.{Step, Called}
 use Rattle.admission.proofs.Exact.{below, is_below, run_from}
 use Rattle.admission.proofs.OneMessage.{one_again}
-use Rattle.admission.proofs.Proofs.{IsUser, attempt, recalled_is, taken_is}
+use Rattle.admission.proofs.Proofs.{attempt, recalled_is, taken_is}
 use Rattle.admission.proofs.Runs.{Run, challenged, ended}
-use Rattle.admission.proofs.ScramLines.{IsFinalRead, final_first, from_final_read, to_final_read}
-use Rattle.admission.proofs.ScramRuns.{AreKept, AreReused, IsGoodSr, LooksUp, TakesTry, begins_none, recalling, taking}
+use Rattle.admission.proofs.ScramLines.{final_first, from_final_read, to_final_read}
+use Rattle.admission.proofs.ScramRuns.{IsGoodSr, LooksUp, TakesTry, begins_none, recalling, taking}
 
 -- ---- a first time
 

@@ -1,15 +1,13 @@
 -- How the steps of an exchange go on to a verdict.
-use Rattle.std.proofs.Common.{◌≡◌, ◌↔◌, ℕ, ◌+◌, ◌<◌, Bool, true, false, List, [], ◌∷◌, length, Option, Some, None, IfSome, refl, sym, ap, ◌∙◌, subst}
-use Rattle.std.specs.Prelude.{if◌then◌else◌}
+use Rattle.std.proofs.Common.{◌≡◌, ℕ, ◌+◌, false, List, [], ◌∷◌, length, Option, Some, None, IfSome, refl, sym, ap, ◌∙◌, subst}
 use Rattle.std.specs.Option.{option_map_or}
 use Rattle.count_window.specs.Window.{high}
 use Rattle.count_window.specs.declared.window.TheConstants.{WIDTH}
 use Rattle.std.proofs.Common.{nat_le, ◌==◌}
 use Rattle.std.specs.List.{list_any}
-use Rattle.cred_store.specs.declared.entry.Entry.{Entry}
 use Rattle.nonce_shard.specs.Exchanges.{keep_reply, opening, progress}
 use Rattle.nonce_shard.specs.History.{time_at}
-use Rattle.nonce_shard.specs.Nonces.{is_live, is_other}
+use Rattle.nonce_shard.specs.Nonces.{is_live}
 use Rattle.nonce_shard.specs.Replies.{answered, reply}
 use Rattle.nonce_shard.specs.declared.calls.Call.{Call}
 use Rattle.nonce_shard.specs.declared.calls.Exchange.{Exchange}
@@ -39,7 +37,7 @@ use Rattle.auth_decide.specs.declared.verdict.Verdict.{Verdict}
 use Rattle.auth_decide.specs.declared.verdict.Verdict.TheVariants.{Continue}
 use Rattle.admission.specs.Exchanges.{IsSrLive}
 use Rattle.admission.specs.Outcomes.{Admits, IsUnusedBehind, counts_behind}
-use Rattle.admission.specs.Steps.{Step, Drew, Called, ask_of, calls_before_first, is_use}
+use Rattle.admission.specs.Steps.{Step, Drew, Called, calls_before_first, is_use}
 use Rattle.admission.proofs.Proofs.{IsUser}
 use Rattle.admission.proofs.Runs.{Run, ask_in, at_call, challenged, drawing, ended, mismatched}
 use Rattle.admission.proofs.UseTests.{behind_is, fresh_tests, repeated_is, tests_fresh}

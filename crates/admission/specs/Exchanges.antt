@@ -1,5 +1,5 @@
 -- Who is admitted by SCRAM-SHA-256 (RFC 5802 sections 3 and 5.1, RFC 7804 section 5).
-use Rattle.std.specs.Prelude.{◌≡◌, ◌↔◌, ◌⊎◌, ◌<◌, ℕ, true, false, nat_eq, codes, List, [], ◌∷◌, ◌++◌, Option, Some, None, IfSome}
+use Rattle.std.specs.Prelude.{◌≡◌, ◌↔◌, ◌⊎◌, ◌<◌, ℕ, true, false, nat_eq, codes, List, [], ◌∷◌, ◌++◌, Some, IfSome}
 use Rattle.std.specs.List.{ends_with}
 use Rattle.std.specs.Option.{option_and_then}
 use Rattle.auth_grammar.specs.Items.{SpellsCredentials}
