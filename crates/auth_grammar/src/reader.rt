@@ -68,8 +68,8 @@ impl Reader {
         }
     }
 
-    /// Does what a turn says of the first byte that is left, and of those that go where it went. Answers how many they
-    /// are, or 0 where no text goes on so.
+    /// Does what a turn says of the first byte that is left, and of those that go where it went.
+    /// Answers how many they are, or 0 where no text goes on so.
     fn take_turn(
         &mut self,
         alloc: Global,
@@ -96,8 +96,8 @@ impl Reader {
         }
     }
 
-    /// Reads the first byte that is left, which stands at a place, and those that go where it went. Answers how many they
-    /// are, or 0 where no text goes on so.
+    /// Reads the first byte that is left, which stands at a place, and those that go where it went.
+    /// Answers how many they are, or 0 where no text goes on so.
     pub fn step(&mut self, alloc: Global, at: u32, rest: &[u8]) -> Result<usize, OutOfMemory>
         requires { 1 ≤ length rest.now }
         ensures { IfOk result (λ count. Steps self.old at rest.now count self.new) }
