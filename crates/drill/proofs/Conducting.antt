@@ -57,10 +57,10 @@ one_more n q words calls done ask step is does =
 
 -- ---- asks
 
-at_draw : (q : Question) (o : Option Space) (s : Stage) → IsDraw (ask_in q o s) → 2 ≤ asks_left s
+at_draw : (q : Question) (o : Option Space) (s : Stage) → IsDraw (ask_in q o s) → asks_left s ≡ 2
 at_draw q None s is = absurd is
-at_draw q (Some space) (stage.Drawing purpose) is = omega arith
-at_draw q (Some space) (stage.Beginning e) is = omega arith
+at_draw q (Some space) (stage.Drawing purpose) is = refl
+at_draw q (Some space) (stage.Beginning e) is = refl
 at_draw q (Some space) stage.Open is = absurd is
 at_draw q (Some space) (stage.Bad why) is = absurd is
 at_draw q (Some space) (stage.Issuing purpose words) is = absurd is
@@ -77,7 +77,10 @@ at_draw q (Some space) (stage.Reusing user sr count) is = absurd is
 at_draw q (Some space) (stage.Authenticated user) is = absurd is
 at_draw q (Some space) stage.Mismatched is = absurd is
 
-answers_more : (done : List Step) (step : Step) → answers_of single_sizes (done ++ step ∷ []) ≡ answers_of single_sizes done ++ answer_of single_sizes step ∷ []
+left_at_draw : (d : Deciding) → Draw ≡ asked_of d → asks_left d.stage ≡ 2
+left_at_draw d is = at_draw d.question (protection_space d.question.role d.question.request d.question.site) d.stage (subst IsDraw is tt)
+
+pub answers_more : (done : List Step) (step : Step) → answers_of single_sizes (done ++ step ∷ []) ≡ answers_of single_sizes done ++ answer_of single_sizes step ∷ []
 answers_more [] step = refl
 answers_more (one ∷ done) step = ap (λ (l : List Answer). answer_of single_sizes one ∷ l) (answers_more done step)
 
@@ -123,7 +126,7 @@ serves_last : (words : List ℕ) (draws : List (List ℕ)) (drawn : List ℕ) �
 serves_last words [] drawn s = (tt, s.0)
 serves_last words (one ∷ draws) drawn s = let rest = serves_last words draws drawn s.1 in ((s.0, rest.0), rest.1)
 
-too_many : (left : ℕ) → 2 ≤ left → left ≤ 1 → ⊥
+too_many : (left : ℕ) → left ≡ 2 → left ≤ 1 → ⊥
 too_many left a b = omega arith
 
 no_draws : {q : Question} {before now : Journal} {told drawn : Option (List (List ℕ))} {d : Deciding} → (g : IsUnderWay q before now told drawn d) → Draw ≡ asked_of d → draws_in g.done ≡ []
@@ -131,7 +134,7 @@ no_draws {q} {before} {now} {told} {drawn} {d} g is = by g.last_draw
   where
     by : (draws_in g.done ≡ []) ⊎ (asks_left d.stage ≤ 1) → draws_in g.done ≡ []
     by (inl none) = none
-    by (inr late) = absurd (too_many (asks_left d.stage) (at_draw d.question (protection_space d.question.role d.question.request d.question.site) d.stage (subst IsDraw is tt)) late)
+    by (inr late) = absurd (too_many (asks_left d.stage) (left_at_draw d is) late)
 
 stage_then : {q : Question} {before now : Journal} {told drawn : Option (List (List ℕ))} {d : Deciding} → (g : IsUnderWay q before now told drawn d) → (step : Step)
     → stage_after d.question d.stage (answer_of single_sizes step) ≡ stage_at q (answers_of single_sizes (g.done ++ step ∷ []))
@@ -150,7 +153,7 @@ under_drew q before now told drawn then d e words g asks adds form new fewer =
     let before_it : draws_in g.done ≡ [] = no_draws g asks in
     let draws : draws_in (g.done ++ step ∷ []) ≡ draws_in g.done ++ words ∷ [] = draws_more g.done (step ∷ []) in
     let calls : calls_in (g.done ++ step ∷ []) ≡ calls_in g.done = calls_more g.done (step ∷ []) ∙ append-nil (calls_in g.done) in
-    let left : asks_left d.stage ≤ 2 = left_at_draw d asks in
+    let left : asks_left d.stage ≡ 2 = left_at_draw d asks in
     record {
       done = g.done ++ step ∷ [];
       fuel = fuel.rest;
@@ -167,29 +170,6 @@ under_drew q before now told drawn then d e words g asks adds form new fewer =
       words = subst OneDraw (sym (draws ∙ ap (λ (l : List (List ℕ)). l ++ words ∷ []) before_it)) form;
       adds = subst (λ (l : List (List ℕ)). Adds told then l) (sym draws) (Adds_trans told drawn then (draws_in g.done) (words ∷ []) g.adds adds);
     }
-  where
-    at_most_two : (q : Question) (o : Option Space) (s : Stage) → IsDraw (ask_in q o s) → asks_left s ≤ 2
-    at_most_two q None s is = absurd is
-    at_most_two q (Some space) (stage.Drawing purpose) is = omega arith
-    at_most_two q (Some space) (stage.Beginning e) is = omega arith
-    at_most_two q (Some space) stage.Open is = absurd is
-    at_most_two q (Some space) (stage.Bad why) is = absurd is
-    at_most_two q (Some space) (stage.Issuing purpose words) is = absurd is
-    at_most_two q (Some space) (stage.Issued purpose nonce) is = absurd is
-    at_most_two q (Some space) (stage.Peeking c nonce) is = absurd is
-    at_most_two q (Some space) (stage.Using c prime nonce) is = absurd is
-    at_most_two q (Some space) (stage.Admitted c prime) is = absurd is
-    at_most_two q (Some space) (stage.Opening e words) is = absurd is
-    at_most_two q (Some space) (stage.Continued e sid) is = absurd is
-    at_most_two q (Some space) (stage.Taking a) is = absurd is
-    at_most_two q (Some space) (stage.Keeping user) is = absurd is
-    at_most_two q (Some space) (stage.Recalling a again) is = absurd is
-    at_most_two q (Some space) (stage.Reusing user sr count) is = absurd is
-    at_most_two q (Some space) (stage.Authenticated user) is = absurd is
-    at_most_two q (Some space) stage.Mismatched is = absurd is
-
-    left_at_draw : (d : Deciding) → Draw ≡ asked_of d → asks_left d.stage ≤ 2
-    left_at_draw d is = at_most_two d.question (protection_space d.question.role d.question.request d.question.site) d.stage (subst IsDraw is tt)
 
 pub under_called : (q : Question) (before now then : Journal) (told drawn : Option (List (List ℕ))) (d e : Deciding) (shard : ℕ) (call : Call) (r : Reply) → IsUnderWay q before now told drawn d
     → Table shard call ≡ asked_of d → shard ≡ 0 → now.sizes ≡ single_sizes → r ≡ reply now.sizes 0 now.calls call → then ≡ record now { calls = now.calls ++ call ∷ [] }
