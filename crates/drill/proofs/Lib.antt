@@ -1,8 +1,10 @@
+pub mod Bounds
 pub mod Conducting
 pub mod Counts
 pub mod Decided
 pub mod Deliveries
 pub mod First
+pub mod Generation
 pub mod Given
 pub mod Kept
 pub mod Known

@@ -1,75 +1,80 @@
 -- Events and words that a number generates.
-use Rattle.std.specs.Prelude.{◌≡◌, ℕ, zero, suc, ◌+◌, ◌*◌, ◌/◌, ◌%◌, ◌^◌, ◌==◌, nat_le, if◌then◌else◌, List, [], ◌∷◌, ◌++◌, length}
+use Rattle.std.specs.Prelude.{◌≡◌, ℕ, zero, suc, ◌+◌, ◌*◌, ◌/◌, ◌%◌, ◌^◌, ◌==◌, nat_le, if◌then◌else◌, List, [], ◌∷◌, ◌++◌, length, ⊤}
 use Rattle.std.specs.Int.{w32, to_be_bytes}
 use Rattle.drill.specs.declared.event.DrillEvent.{DrillEvent}
 use Rattle.drill.specs.declared.event.DrillEvent.TheVariants.{Challenge, Make, Deliver, Pass}
-use Rattle.drill.specs.World.{Happening, IsSound, World, draws, line_of, start, step}
+use Rattle.drill.specs.World.{Happening, IsSound, World, draws, line_of, run, start, step}
+
+-- ---- numbers
 
 -- the generator moves on, and gives its upper half
-abbrev pub moved : ℕ → ℕ
+unfoldable pub moved : ℕ → ℕ
 moved x = (x * 6364136223846793005 + 1442695040888963407) % 2 ^ 64
 
-abbrev pub upper : ℕ → ℕ
+unfoldable pub upper : ℕ → ℕ
 upper x = x / 2 ^ 32
 
--- sixteen bytes are four draws, the greatest byte of each first
-abbrev pub words_from : ℕ → List ℕ
+-- ---- words
+
+-- sixteen bytes are four numbers, the greatest byte of each first
+unfoldable pub words_from : ℕ → List ℕ
 words_from x =
     let a = moved x in
     let b = moved a in
     let c = moved b in
     to_be_bytes w32 (upper a) ++ to_be_bytes w32 (upper b) ++ to_be_bytes w32 (upper c) ++ to_be_bytes w32 (upper (moved c))
 
-abbrev pub moved_by_words : ℕ → ℕ
-moved_by_words x = moved (moved (moved (moved x)))
+-- so often sixteen bytes, one after the other, and the generator behind them
+abbrev pub words_in_turn : ℕ → ℕ → List (List ℕ)
+words_in_turn zero x = []
+words_in_turn (suc n) x = words_from x ∷ words_in_turn n (moved (moved (moved (moved x))))
 
--- the generator behind words that were drawn or not
-abbrev pub moved_for : List (List ℕ) → ℕ → ℕ
-moved_for [] x = x
-moved_for (words ∷ more) x = moved_by_words x
+abbrev pub behind_words : ℕ → ℕ → ℕ
+behind_words zero x = x
+behind_words (suc n) x = behind_words n (moved (moved (moved (moved x))))
 
 -- ---- events
 
--- which of the requests is delivered, where some were made
-abbrev pub delivery_of : ℕ → ℕ → DrillEvent
-delivery_of zero n = Pass 0
-delivery_of (suc made) n = Deliver (n % (made + 1))
+-- Where requests were made, a number picks one of them. Where none were made, nothing happens.
+abbrev pub generated_delivery : ℕ → ℕ → DrillEvent × ℕ
+generated_delivery zero x = (Pass 0, x)
+generated_delivery (suc made) x = (Deliver (upper (moved x) % suc made), moved x)
 
--- the event that this number, below ten, stands for, with the number that comes behind it
-abbrev pub event_of : ℕ → ℕ → ℕ → DrillEvent
-event_of made e n =
-    if e == 0 then Challenge
-    else if nat_le e 4 then Make
-    else if nat_le e 8 then delivery_of made n
-    else Pass (n % 120)
+-- the event that a number below ten stands for, where so many requests were made, and the generator behind it
+abbrev pub event_by : ℕ → ℕ → ℕ → DrillEvent × ℕ
+event_by kind made x =
+    if kind == 0 then (Challenge, x)
+    else if nat_le kind 4 then (Make, x)
+    else if nat_le kind 8 then generated_delivery made x
+    else (Pass (upper (moved x) % 120), moved x)
 
-abbrev pub kind_at : ℕ → ℕ
-kind_at x = upper (moved x) % 10
+abbrev pub generated_event : ℕ → ℕ → DrillEvent × ℕ
+generated_event made x = event_by (upper (moved x) % 10) made (moved x)
 
-abbrev pub event_at : ℕ → World → DrillEvent
-event_at x w = event_of (length w.scene.made) (kind_at x) (upper (moved (moved x)))
+-- ---- happenings
 
--- the generator behind the numbers of an event
-abbrev pub moved_by_event : ℕ → ℕ → ℕ → ℕ
-moved_by_event made e x =
-    if nat_le e 4 then moved x
-    else if nat_le e 8 then (if made == 0 then moved x else moved (moved x))
-    else moved (moved x)
+-- the event that is generated in a world, and the generator behind it
+abbrev pub event_at : ℕ → World → DrillEvent × ℕ
+event_at x w = generated_event (length w.scene.made) x
 
-abbrev pub behind_event : ℕ → World → ℕ
-behind_event x w = moved_by_event (length w.scene.made) (kind_at x) x
-
--- a step that is generated
+-- The event is generated, and then the words that are drawn in it, if any are.
 pub record IsGenerated (x : ℕ) (w : World) (h : Happening) : Type 0 where
-  pub event : h.event ≡ event_at x w
-  pub words : h.words ≡ words_from (behind_event x w)
+  pub event : h.event ≡ (event_at x w).0
+  pub words : draws w h ≡ words_in_turn (length (draws w h)) (event_at x w).1
   pub sound : IsSound w h
 
--- so many steps that are generated lead from one world to the other
-abbrev pub Goes : ℕ → ℕ → World → World → Type 0
-Goes zero x w v = v ≡ w
-Goes (suc steps) x w v = (h : Happening) × IsGenerated x w h × Goes steps (moved_for (draws w h) (behind_event x w)) (step w h) v
+-- the generator behind what happened
+abbrev pub behind : ℕ → World → Happening → ℕ
+behind x w h = behind_words (length (draws w h)) (event_at x w).1
+
+-- one after the other
+abbrev pub AreGenerated : ℕ → List Happening → World → Type 0
+AreGenerated x [] w = ⊤
+AreGenerated x (h ∷ happenings) w = IsGenerated x w h × AreGenerated (behind x w h) happenings (step w h)
 
 -- the line of so many steps that a number generates
-abbrev pub Prints : ℕ → ℕ → List ℕ → Type 0
-Prints seed steps text = (v : World) × Goes steps seed start v × (text ≡ line_of v.scene steps)
+pub record IsDrillLine (seed steps : ℕ) (text : List ℕ) : Type 0 where
+  pub happenings : List Happening
+  pub number : length happenings ≡ steps
+  pub generated : AreGenerated seed happenings start
+  pub is : text ≡ line_of (run happenings start).scene steps

@@ -4,4 +4,5 @@ pub mod Deciding
 pub mod World
 pub mod Steps
 pub mod Generator
+pub mod Drilling
 pub mod Laws

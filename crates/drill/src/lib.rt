@@ -3,8 +3,11 @@
 #![tactic(auto)]
 
 mod deciding;
+mod drilling;
 mod error;
 mod event;
+mod generated;
+mod generator;
 mod giving;
 mod hearing;
 mod laws;
@@ -17,6 +20,7 @@ mod tally;
 mod tests;
 mod world;
 
+pub use drilling::{MOST_STEPS, drill_line};
 pub use error::DrillError;
 pub use event::DrillEvent;
 pub use laws::{admits_each_once, admits_first};
