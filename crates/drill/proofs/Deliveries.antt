@@ -19,6 +19,7 @@ use Rattle.auth_decide.specs.Decisions.{IsOutside}
 use Rattle.auth_decide.specs.Paths.{correspond, from_slash, path_of, without_authority}
 use Rattle.auth_decide.specs.Responses.{is_right, right_response}
 use Rattle.auth_decide.specs.Stages.{Question, challenge_stage, protection_space, right_stage}
+use Rattle.auth_decide.specs.VerifiedCredentials.{verified}
 use Rattle.auth_decide.specs.declared.candidate.Candidate.{Candidate}
 use Rattle.auth_decide.specs.declared.credentials.CredentialsField.TheVariants as read
 use Rattle.auth_decide.specs.declared.credentials.RequestCredentials.{RequestCredentials}
@@ -137,7 +138,7 @@ its_right moment draw credentials =
 -- ---- deliveries
 
 abbrev pub its_use : ℕ → Draw → RequestCredentials → TableName → Call
-its_use moment draw credentials n = use_of (made_question moment draw credentials).moment space n (candidate draw) (record { items = draw.cnonce })
+its_use moment draw credentials n = use_of (made_question moment draw credentials).moment space n (verified (candidate draw) draw.cnonce)
 
 -- Its count is used, behind all calls that there were.
 pub record IsUse (moment : ℕ) (draw : Draw) (credentials : RequestCredentials) (n : TableName) (words : List ℕ) (calls : List Call) : Type 0 where
@@ -196,7 +197,7 @@ delivery moment draw credentials words calls made field reads = by (held_or_not 
         let d = decides (made_question moment draw credentials) words calls in
         let run = well_run single_sizes (made_question moment draw credentials) space (candidate draw) (Some n) (steps_for (made_question moment draw credentials) words calls) d.0 r is
         (steps_asked (made_question moment draw credentials) words calls) d.1 in
-        let R : Bool → Type 0 = λ b. Run single_sizes (made_question moment draw credentials) space (if b then right_stage (candidate draw) draw.cnonce (Some n) else challenge_stage false)
+        let R : Bool → Type 0 = λ b. Run single_sizes (made_question moment draw credentials) space (if b then right_stage (verified (candidate draw) draw.cnonce) (Some n) else challenge_stage false)
         (steps_for (made_question moment draw credentials) words calls) d.0 in
         UsesOne n text form inside (held moment draw credentials words calls n d.0
         (using single_sizes (made_question moment draw credentials) space (candidate draw) n draw.cnonce d.0 (Begins (made_question moment draw credentials) (candidate draw) n draw.cnonce d.0)

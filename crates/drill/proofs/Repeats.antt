@@ -25,6 +25,7 @@ use Rattle.nonce_shard.proofs.NoTwice.{admits_once}
 use Rattle.nonce_shard.proofs.OneName.{names_one}
 use Rattle.spaces_map.specs.declared.space.Space.{Space}
 use Rattle.auth_decide.specs.Asks.{use_of}
+use Rattle.auth_decide.specs.VerifiedCredentials.{verified}
 use Rattle.auth_decide.specs.Credentials.{LinesSay, Reads, SpellsOne}
 use Rattle.auth_decide.specs.Messages.{scram_scheme}
 use Rattle.auth_decide.specs.Stages.{Question}
@@ -132,7 +133,7 @@ used_fresh : (moment : ℕ) (item : Item) (credentials : RequestCredentials) (wo
 used_fresh moment item credentials words calls space c n verdict fields named form inside user admits u =
     let q : Question = question moment (request_with item) credentials in
     let fresh = u.leads.fresh user admits in
-    let call : Call = use_of q.moment space n c (record { items = u.prime }) in
+    let call : Call = use_of q.moment space n (verified c u.prime) in
     let place : u.calls ≡ calls ++ calls_in u.before = steps_placed q words calls u.before n.shard u.calls call u.after u.is in
     let F : List Call → Type 0 = λ l. reply single_sizes n.shard l call ≡ Fresh fresh.0 in
     record {
