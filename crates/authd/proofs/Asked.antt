@@ -1,12 +1,12 @@
 -- What words with an option ask for.
-use Rattle.std.proofs.Common.{◌≡◌, ◌≢◌, ◌+◌, ◌<◌, ◌≤◌, ◌^◌, ℕ, Bool, true, false, ◌&&◌, not, cond, if◌then◌else◌, List, [], ◌∷◌, ◌++◌, length, drop, find, decimal, codes, Option, Some, None, refl, sym, ap, ◌∙◌, eq-eqb, arith}
-use Rattle.std.specs.Cmp.Lexicographic.{same_text}
-use Rattle.std.specs.List.{list_all}
-use Rattle.std.specs.Str.{bytes_eq}
-use Rattle.std.specs.Str.Parse.{digits_value}
-use Rattle.std.proofs.lemmas.Bool.Decides.{nat_tests}
-use Rattle.std.proofs.lemmas.Fmt.{decimal_is_IsNumeral}
-use Rattle.authd.specs.Options.{asked_for, is_option, is_rounds, rounds_in, rounds_option, says_rounds, with_option, with_options, without_option}
+use Rattle.std.proofs.Common.{◌≡◌, ◌≢◌, ◌+◌, ℕ, Bool, true, false, ◌&&◌, not, cond, if◌then◌else◌, List, [], ◌∷◌, ◌++◌, length, drop, find, Option, Some, None, refl, sym, ap, ◌∙◌, arith}
+use Rattle.std.specs.Prelude.{nat_eq}
+use Rattle.std.specs.List.{list_all, starts_with}
+use Rattle.std.proofs.Math.Seq.{drop-append_seam}
+use Rattle.std.proofs.lemmas.Bool.Decides.{Decides-eqb}
+use Rattle.std.proofs.lemmas.Slice.Eq.{starts_is}
+use Rattle.authd.specs.Numbers.{number_in}
+use Rattle.authd.specs.Options.{asked_of_others, is_option, option_number, with_option, with_options, without_option}
 use Rattle.authd.specs.Words.{Usage, command_of, is_word, by_name}
 
 -- ---- no other number of words
@@ -53,7 +53,7 @@ refused name words none = ap (λ (v : Bool). if is_word name && v then by_name (
     by true = refl
     by false = refl
 
-pub other_length : (words : List (List ℕ)) → length words ≢ 6 → asked_for words ≡ command_of words
+pub other_length : (words : List (List ℕ)) → length words ≢ 6 → asked_of_others words ≡ command_of words
 other_length [] other = refl
 other_length (name ∷ words) other = by (find is_option words) refl
   where
@@ -65,51 +65,20 @@ other_length (name ∷ words) other = by (find is_option words) refl
         ∙ other_words o (name ∷ without_option words) (λ five. other (omega (arith, some.1, five)))
         ∙ sym (refused name words some.0)
 
--- ---- the count of iterations
+-- ---- the number behind an option's name
 
-self_eq : (xs : List ℕ) → bytes_eq xs xs ≡ true
-self_eq [] = refl
-self_eq (x ∷ xs) = ap (λ (v : Bool). v && bytes_eq xs xs) (eq-eqb x x refl) ∙ self_eq xs
+begins : (name rest : List ℕ) → starts_with nat_eq (name ++ rest) name ≡ true
+begins name rest = (starts_is Decides-eqb (name ++ rest) name (starts_with nat_eq (name ++ rest) name) refl).1 rest refl
 
-module _ (option digits : List ℕ) (n : ℕ) (below : n < 2 ^ 64) (cut : option ≡ codes "--rounds=" ++ digits) (says : digits ≡ decimal n) where
-  value : digits_value 10 (drop 9 option) ≡ n
-  value = ap (λ (l : List ℕ). digits_value 10 (drop 9 l)) cut ∙ ap (digits_value 10) says ∙ (decimal_is_IsNumeral n below).1
+pub number_there : (name digits option : List ℕ) (least most : ℕ) → option ≡ name ++ digits → option_number name least most option ≡ number_in least most digits
+number_there name digits option least most is =
+    ap (option_number name least most) is
+    ∙ ap (λ (b : Bool). if b then number_in least most (drop (length name) (name ++ digits)) else None) (begins name digits)
+    ∙ ap (number_in least most) (drop-append_seam name digits)
 
-  whole : option ≡ rounds_option n
-  whole = cut ∙ ap (λ (l : List ℕ). codes "--rounds=" ++ l) says
-
-  tested : says_rounds option n ≡ is_rounds n
-  tested = ap (λ (v : Bool). v && is_rounds n) (ap (λ (l : List ℕ). bytes_eq l (rounds_option n)) whole ∙ self_eq (rounds_option n))
-
-  pub rounds_there : is_rounds n ≡ true → rounds_in option ≡ Some n
-  rounds_there within =
-      ap (λ (m : ℕ). if says_rounds option m then Some m else None) value ∙ ap (λ (v : Bool). if v then Some n else None) (tested ∙ within)
-
-  pub rounds_out : is_rounds n ≡ false → rounds_in option ≡ None
-  rounds_out out =
-      ap (λ (m : ℕ). if says_rounds option m then Some m else None) value ∙ ap (λ (v : Bool). if v then Some n else None) (tested ∙ out)
-
-few_rounds : (m : ℕ) → is_rounds m ≡ true → m < 2 ^ 64
-few_rounds m is = grind (arith, nat_tests)
-
-pub no_rounds : (option : List ℕ) → ((n : ℕ) → n < 2 ^ 64 → option ≢ rounds_option n) → rounds_in option ≡ None
-no_rounds option other = by (bytes_eq option (rounds_option m)) (is_rounds m) refl refl
+pub no_number : (name option : List ℕ) (least most : ℕ) → ((rest : List ℕ) → option ≢ name ++ rest) → option_number name least most option ≡ None
+no_number name option least most other = by (starts_with nat_eq option name) refl
   where
-    m : ℕ
-    m = digits_value 10 (drop 9 option)
-
-    by : (a b : Bool) → bytes_eq option (rounds_option m) ≡ a → is_rounds m ≡ b → (if bytes_eq option (rounds_option m) && is_rounds m then Some m else None) ≡ None
-    by true true p q = absurd (other m (few_rounds m q) (same_text option (rounds_option m) (sym p)))
-    by true false p q =
-        ap (λ (v : Bool). if v && is_rounds m then Some m else None) p ∙ ap (λ (v : Bool). if v then Some m else None) q
-    by false b p q = ap (λ (v : Bool). if v && is_rounds m then Some m else None) p
-
--- a count is within its limits, or not
-pub within_rounds : (n : ℕ) → 4096 ≤ n → n ≤ 1000000 → is_rounds n ≡ true
-within_rounds n low high = grind (arith, nat_tests)
-
-pub few : (n : ℕ) → n < 4096 → is_rounds n ≡ false
-few n low = grind (arith, nat_tests)
-
-pub many : (n : ℕ) → 1000000 < n → is_rounds n ≡ false
-many n high = grind (arith, nat_tests)
+    by : (b : Bool) → starts_with nat_eq option name ≡ b → (if b then number_in least most (drop (length name) option) else None) ≡ None
+    by true is = absurd (other (drop (length name) option) ((starts_is Decides-eqb option name (starts_with nat_eq option name) refl).0 is))
+    by false is = refl

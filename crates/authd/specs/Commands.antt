@@ -2,7 +2,7 @@
 use Rattle.std.specs.Prelude.{ℕ, Bool, List}
 use Rattle.authd.specs.Words as words
 use Rattle.authd.specs.declared.command.Command.{Command}
-use Rattle.authd.specs.declared.command.Command.TheVariants.{Usage, Show, Pipe, Check, Import, Passwd, Switch, Migrate, Listen, Proxy}
+use Rattle.authd.specs.declared.command.Command.TheVariants.{Usage, Show, Pipe, Check, Import, Passwd, Switch, Migrate, Drill, Listen, Proxy}
 use Rattle.authd.specs.declared.crew.Listening.{Listening}
 use Rattle.authd.specs.declared.crew.Proxying.{Proxying}
 use Rattle.authd.specs.declared.crew.Crew.{Crew}
@@ -22,6 +22,7 @@ meaning (Import store htdigest) = words.Import store.now htdigest.now
 meaning (Passwd account) = words.Passwd account.store.now account.name.now account.realm.now account.kind.now account.rounds
 meaning (Switch holder on) = words.Switch holder.store.now holder.name.now holder.realm.now on
 meaning (Migrate store) = words.Migrate store.now
+meaning (Drill plan) = words.Drill plan.seed plan.steps
 meaning (Listen listening) = words.Listen (listening_of listening)
 meaning (Proxy proxying) = words.Proxy (proxying_of proxying)
 

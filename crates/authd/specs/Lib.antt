@@ -16,6 +16,7 @@ pub mod Passwords
 pub mod Passwd
 pub mod Switch
 pub mod Migrate
+pub mod Drills
 pub mod Pipe
 pub mod Run
 pub mod Listen

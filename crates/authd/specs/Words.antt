@@ -38,6 +38,8 @@ pub data Command : Type 0 where
   Switch : List ℕ → List ℕ → List ℕ → Bool → Command
   -- the name of a store
   Migrate : List ℕ → Command
+  -- a seed and a number of steps
+  Drill : ℕ → ℕ → Command
   Listen : Listening → Command
   Proxy : Proxying → Command
 
@@ -138,6 +140,7 @@ listening_in (Import store htdigest) = None
 listening_in (Passwd store name realm kind rounds) = None
 listening_in (Switch store name realm on) = None
 listening_in (Migrate store) = None
+listening_in (Drill seed steps) = None
 listening_in (Listen listening) = Some listening
 listening_in (Proxy proxying) = None
 
@@ -151,6 +154,7 @@ proxying_in (Import store htdigest) = None
 proxying_in (Passwd store name realm kind rounds) = None
 proxying_in (Switch store name realm on) = None
 proxying_in (Migrate store) = None
+proxying_in (Drill seed steps) = None
 proxying_in (Listen listening) = None
 proxying_in (Proxy proxying) = Some proxying
 
@@ -164,5 +168,6 @@ crew_in (Import store htdigest) = None
 crew_in (Passwd store name realm kind rounds) = None
 crew_in (Switch store name realm on) = None
 crew_in (Migrate store) = None
+crew_in (Drill seed steps) = None
 crew_in (Listen listening) = Some (false, listening.workers, listening.address)
 crew_in (Proxy proxying) = Some (true, proxying.workers, proxying.address)

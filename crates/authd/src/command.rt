@@ -7,7 +7,8 @@ ghost use Rattle.authd.specs.Words.{by_name, crew_in, check_with, command_of, im
 
 use crate::account::{Account, ROUNDS};
 use crate::crew::{Crew, Listening, MOST_CONNECTIONS, MOST_WORKERS, Proxying};
-use crate::numbers::{is_address, number_in};
+use crate::drill_plan::DrillPlan;
+use crate::numbers::{is_address, small_number_in};
 use auth_grammar::{Octets, OutOfMemory};
 use std::alloc::Global;
 
@@ -38,6 +39,7 @@ pub(crate) enum Command<'w> {
     Passwd(Account<'w>),
     Switch { holder: Holder<'w>, on: bool },
     Migrate { store: &'w [u8] },
+    Drill(DrillPlan),
     Listen(Listening<'w>),
     Proxy(Proxying<'w>),
 }
@@ -57,6 +59,7 @@ impl<'w> Command<'w> {
             | Command::Passwd(_)
             | Command::Switch { .. }
             | Command::Migrate { .. }
+            | Command::Drill(_)
             | Command::Proxy(_) => None,
         }
     }
@@ -75,6 +78,7 @@ impl<'w> Command<'w> {
             | Command::Passwd(_)
             | Command::Switch { .. }
             | Command::Migrate { .. }
+            | Command::Drill(_)
             | Command::Listen(_) => None,
         }
     }
@@ -196,8 +200,8 @@ fn listen_at<'w>(
     if !is_address(address) {
         return Command::Usage;
     }
-    let workers = number_in(1, MOST_WORKERS, workers);
-    let connections = number_in(1, MOST_CONNECTIONS, connections);
+    let workers = small_number_in(1, MOST_WORKERS, workers);
+    let connections = small_number_in(1, MOST_CONNECTIONS, connections);
     match (workers, connections) {
         (Some(workers), Some(connections)) => Command::Listen(Listening {
             place,
@@ -243,8 +247,8 @@ fn proxy_at<'w>(
     if !is_address(address) {
         return Command::Usage;
     }
-    let workers = number_in(1, MOST_WORKERS, workers);
-    let connections = number_in(1, MOST_CONNECTIONS, connections);
+    let workers = small_number_in(1, MOST_WORKERS, workers);
+    let connections = small_number_in(1, MOST_CONNECTIONS, connections);
     match (workers, connections) {
         (Some(workers), Some(connections)) => Command::Proxy(Proxying {
             store,

@@ -5,6 +5,8 @@ mod account;
 mod check;
 mod command;
 mod crew;
+mod drill_plan;
+mod drilling;
 mod failure;
 mod import;
 mod input;

@@ -6,7 +6,7 @@ ghost use Rattle.authd.specs.Numbers.{is_address, is_between, is_host, is_host_b
 use auth_grammar::decimal_of;
 
 /// The number that a word writes in decimal digits, with no sign and no leading zero, where it is from `least` to `most`.
-pub(crate) fn number_in(least: u32, most: u32, word: &[u8]) -> Option<u32>
+pub(crate) fn number_in(least: u64, most: u64, word: &[u8]) -> Option<u64>
     ensures number { result ≡ number_in least most word.now }
     ensures within { IfSome result (λ number. (least ≤ number) × (number ≤ most)) }
 {
@@ -14,16 +14,27 @@ pub(crate) fn number_in(least: u32, most: u32, word: &[u8]) -> Option<u32>
         return None;
     };
     if is_between(least, most, number) {
-        Some(number as u32)
+        Some(number)
     } else {
         None
     }
 }
 
-fn is_between(least: u32, most: u32, number: u64) -> bool
+fn is_between(least: u64, most: u64, number: u64) -> bool
     ensures { result ≡ is_between least most number }
 {
-    u64::from(least) <= number && number <= u64::from(most)
+    least <= number && number <= most
+}
+
+/// The same of numbers of 32 bits.
+pub(crate) fn small_number_in(least: u32, most: u32, word: &[u8]) -> Option<u32>
+    ensures number { result ≡ number_in least most word.now }
+    ensures within { IfSome result (λ number. (least ≤ number) × (number ≤ most)) }
+{
+    match number_in(u64::from(least), u64::from(most), word) {
+        Some(number) => Some(number as u32),
+        None => None,
+    }
 }
 
 /// A letter, a digit, `.` or `-`, as names of hosts and addresses in dots have them.

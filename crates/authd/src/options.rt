@@ -1,11 +1,15 @@
 //! The options of the command line.
 ghost use Rattle.std.specs.Prelude.{◌≡◌, ◌≢◌, ◌≤◌, ◌∷◌, [], IfSome, length, map, string_bytes};
+ghost use Rattle.drill.specs.declared.drilling.TheConstants.{MOST_STEPS};
 ghost use Rattle.authd.specs.Commands.{meaning};
-ghost use Rattle.authd.specs.Options.{asked_for, is_option, rounds_in, takes_rounds, with_option};
+ghost use Rattle.authd.specs.Options.{asked_for, asked_of_others, drill_with, is_option, option_number, rounds_in, seed_in, steps_in, takes_rounds, with_option};
 
 use crate::account::Account;
 use crate::command::{Command, command_of, is_word};
-use auth_grammar::{behind, decimal_of};
+use crate::drill_plan::DrillPlan;
+use crate::numbers::number_in;
+use auth_grammar::behind;
+use drill::MOST_STEPS;
 
 /// How many iterations an option may say.
 const ROUNDS_LEAST: u64 = 4_096;
@@ -17,6 +21,62 @@ pub(crate) fn asked_for(words: &[String]) -> Command<'_>
     ensures { meaning result ≡ asked_for (map string_bytes words.now) }
 {
     match words {
+        [name, options @ ..] => {
+            if name.as_bytes() == b"drill".as_slice() {
+                drill_with(options)
+            } else {
+                asked_of_others(words)
+            }
+        }
+        [] => Command::Usage,
+    }
+}
+
+/// `drill` with its two options.
+fn drill_with(options: &[String]) -> Command<'_>
+    ensures { meaning result ≡ drill_with (map string_bytes options.now) }
+{
+    match options {
+        [a, b] => drill_of(a.as_bytes(), b.as_bytes()),
+        _ => Command::Usage,
+    }
+}
+
+/// `drill` with these options.
+fn drill_of<'w>(a: &[u8], b: &[u8]) -> Command<'w>
+    ensures { meaning result ≡ drill_with (a.now ∷ b.now ∷ []) }
+{
+    let seed = seed_in(a).or(seed_in(b));
+    let steps = steps_in(a).or(steps_in(b));
+    match (seed, steps) {
+        (Some(seed), Some(steps)) => Command::Drill(DrillPlan { seed, steps }),
+        _ => Command::Usage,
+    }
+}
+
+/// The seed that an option says.
+fn seed_in(option: &[u8]) -> Option<u64>
+    ensures { result ≡ seed_in option.now }
+{
+    option_number(b"--seed=", 0, u64::MAX, option)
+}
+
+/// The number of steps that an option says.
+fn steps_in(option: &[u8]) -> Option<u32>
+    ensures steps { result ≡ steps_in option.now }
+    ensures few { IfSome result (λ steps. steps ≤ MOST_STEPS) }
+{
+    match option_number(b"--steps=", 1, u64::from(MOST_STEPS), option) {
+        Some(steps) => Some(steps as u32),
+        None => None,
+    }
+}
+
+/// What words that aren't those of `drill` ask for.
+fn asked_of_others(words: &[String]) -> Command<'_>
+    ensures { meaning result ≡ asked_of_others (map string_bytes words.now) }
+{
+    match words {
         [command, a, b, c, d, e] => asked_of_six(
             words,
             command.as_bytes(),
@@ -26,14 +86,14 @@ pub(crate) fn asked_for(words: &[String]) -> Command<'_>
             d.as_bytes(),
             e.as_bytes(),
         ),
-        _ => asked_of_others(words),
+        _ => asked_without_option(words),
     }
 }
 
-/// The same of another number of words, which have no option.
-fn asked_of_others(words: &[String]) -> Command<'_>
+/// The same of another number of words than six, which have no option.
+fn asked_without_option(words: &[String]) -> Command<'_>
     requires { length words.now ≢ 6 }
-    ensures { meaning result ≡ asked_for (map string_bytes words.now) }
+    ensures { meaning result ≡ asked_of_others (map string_bytes words.now) }
 {
     command_of(words)
 }
@@ -49,7 +109,7 @@ fn asked_of_six<'w>(
     e: &'w [u8],
 ) -> Command<'w>
     requires { map string_bytes words.now ≡ command.now ∷ a.now ∷ b.now ∷ c.now ∷ d.now ∷ e.now ∷ [] }
-    ensures { meaning result ≡ asked_for (map string_bytes words.now) }
+    ensures { meaning result ≡ asked_of_others (map string_bytes words.now) }
 {
     if is_option(a) {
         return with_option(a, command, b, c, d, e);
@@ -123,17 +183,19 @@ fn rounds_in(option: &[u8]) -> Option<u32>
     ensures count { result ≡ rounds_in option.now }
     ensures some { IfSome result (λ rounds. 1 ≤ rounds) }
 {
-    let Some(digits) = behind(option, b"--rounds=") else {
-        return None;
-    };
-    let Some(number) = decimal_of(digits) else {
-        return None;
-    };
-    if number < ROUNDS_LEAST {
-        return None;
+    match option_number(b"--rounds=", ROUNDS_LEAST, ROUNDS_MOST, option) {
+        Some(rounds) => Some(rounds as u32),
+        None => None,
     }
-    if number > ROUNDS_MOST {
-        return None;
+}
+
+/// The number that an option says behind its name, where it is from `least` to `most`.
+fn option_number(name: &[u8], least: u64, most: u64, option: &[u8]) -> Option<u64>
+    ensures number { result ≡ option_number name.now least most option.now }
+    ensures within { IfSome result (λ number. (least ≤ number) × (number ≤ most)) }
+{
+    match behind(option, name) {
+        Some(digits) => number_in(least, most, digits),
+        None => None,
     }
-    Some(number as u32)
 }

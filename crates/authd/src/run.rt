@@ -10,6 +10,7 @@ ghost use Rattle.authd.specs.Run.{Does};
 
 use crate::check::check;
 use crate::command::Command;
+use crate::drilling::print_drill;
 use crate::failure::Failure;
 use crate::import::import;
 use crate::migrate::migrate;
@@ -75,6 +76,7 @@ fn perform<L: Link, F: Files, C: Clock, W: Words>(
         Command::Passwd(account) => passwd(alloc, &account, link, files, random),
         Command::Switch { holder, on } => switch(alloc, &holder, on, link, files),
         Command::Migrate { store } => migrate(alloc, store, link, files),
+        Command::Drill(plan) => print_drill(alloc, plan, link),
     }
 }
 

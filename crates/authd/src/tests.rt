@@ -1,5 +1,6 @@
 //! What no clause says: the texts that the program prints, and that it ends well with memory to spare.
 mod at_once;
+mod drills;
 mod listen;
 mod pipe;
 mod proxying;
@@ -124,7 +125,9 @@ fn other_words_are_answered_with_usage(rt: HostRuntime) -> Result<(), Fail> {
     let lines =
         "\n-\nshow -\nshow x\nShow\nshows\nshow \npipe\npipe a b\npipe a b c d\npipe a  c\npipe a b -c\ncheck a\ncheck a b c\ncheck a -b\nimport a\nimport a b c\npasswd a b c\npasswd a b c md5 d\npasswd a b c MD5\npasswd a b:b c md5\npasswd a b c:c md5\nlisten a b c 127.0.0.1:8080 1 1\nproxy a b 127.0.0.1:8080 1 1\n--help\n\
          disable a b\nenable a b c d\nmigrate\nmigrate a b\nmigrate -a\nmigrate a --rounds=5000\ndisable a b c --rounds=5000\npasswd a b c md5 --rounds=5000\n--rounds=5000 passwd a b c scram-sha-256\npasswd --rounds=5000 a b c scram-sha-256 --rounds=5000\n\
-         passwd a b c scram-sha-256 --rounds=4095\npasswd a b c scram-sha-256 --rounds=1000001\npasswd a b c scram-sha-256 --rounds=05000\npasswd a b c scram-sha-256 --rounds=+5000\npasswd a b c scram-sha-256 --rounds=\npasswd a b c scram-sha-256 --rounds\npasswd a b c scram-sha-256 --round=5000\npasswd a b --rounds=5000\npasswd a b  scram-sha-256 --rounds=5000";
+         passwd a b c scram-sha-256 --rounds=4095\npasswd a b c scram-sha-256 --rounds=1000001\npasswd a b c scram-sha-256 --rounds=05000\npasswd a b c scram-sha-256 --rounds=+5000\npasswd a b c scram-sha-256 --rounds=\npasswd a b c scram-sha-256 --rounds\npasswd a b c scram-sha-256 --round=5000\npasswd a b --rounds=5000\npasswd a b  scram-sha-256 --rounds=5000\n\
+         drill\ndrill --seed=1\ndrill --steps=1\ndrill --seed=1 --steps=0\ndrill --seed=1 --steps=4097\ndrill --seed=18446744073709551616 --steps=1\ndrill --seed=01 --steps=1\ndrill --seed=+1 --steps=1\ndrill --seed=-1 --steps=1\ndrill --seed= --steps=1\ndrill --seed=1 --steps=\ndrill --seed=1 --steps=01\n\
+         drill --seed=1 --seed=2\ndrill --steps=1 --steps=1\ndrill --seed=1 --seed=1 --steps=1\ndrill --seed=1 --steps=1 --steps=1\ndrill --seed=1 --steps=1 a\ndrill a --seed=1 --steps=1\ndrill --seed=1  --steps=1\n--seed=1 drill --steps=1\n--seed=1 --steps=1 drill\ndrill seed=1 --steps=1\ndrill --seed=1 --step=1\ndrill --seed 1 --steps 1\nDrill --seed=1 --steps=1\npipe --seed=1 --steps=1";
     for words in lines.split('\n') {
         let mut link = link_of(alloc, b"a b=c", 2, NONE)?;
         let ran = run_over(alloc, words, &mut link, vec![in alloc]?, NONE)?;

@@ -1,7 +1,7 @@
 use Rattle.std.proofs.Common.{map, string_bytes, sym, ◌∙◌}
 use Rattle.std.proofs.lemmas.List.{length-map}
 use Rattle.authd.proofs.Asked.{other_length}
-use Rattle.authd.proofs.options.asked_of_others.Goals as goal
+use Rattle.authd.proofs.options.asked_without_option.Goals as goal
 
 pub returns : goal.returns
 returns c =
