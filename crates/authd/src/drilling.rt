@@ -13,7 +13,11 @@ use drill::drill_line;
 use std::alloc::Global;
 
 /// Makes a drill of one client and one server, and prints its line.
-pub(crate) fn print_drill<L: Link>(alloc: Global, plan: DrillPlan, link: &mut L) -> Result<(), Failure>
+pub(crate) fn print_drill<L: Link>(
+    alloc: Global,
+    plan: DrillPlan,
+    link: &mut L,
+) -> Result<(), Failure>
     ensures drills { let at = link_of L.left L.given L.written L.reads in Drills plan.seed plan.steps (at link.old) (at link.new) result }
     ensures kind { IfErr result IsPrintFailure }
     ensures write_fault { result ≡ Err (Failure.Fault Fault.Write) → Rose (L.write_faults link.old) (L.write_faults link.new) }
