@@ -6,7 +6,7 @@ use Rattle.std.proofs.Math.Seq.{drop-append_seam}
 use Rattle.std.proofs.lemmas.Bool.Decides.{Decides-eqb}
 use Rattle.std.proofs.lemmas.Slice.Eq.{starts_is}
 use Rattle.authd.specs.Numbers.{number_in}
-use Rattle.authd.specs.Options.{asked_of_others, is_option, option_number, with_option, with_options, without_option}
+use Rattle.authd.specs.Options.{asked_of_others, drill_with, is_option, option_number, with_option, with_options, without_option}
 use Rattle.authd.specs.Words.{Usage, command_of, is_word, by_name}
 
 -- ---- no other number of words
@@ -82,3 +82,11 @@ no_number name option least most other = by (starts_with nat_eq option name) ref
     by : (b : Bool) → starts_with nat_eq option name ≡ b → (if b then number_in least most (drop (length name) option) else None) ≡ None
     by true is = absurd (other (drop (length name) option) ((starts_is Decides-eqb option name (starts_with nat_eq option name) refl).0 is))
     by false is = refl
+
+-- ---- `drill` has two words behind it
+
+pub not_two : (words : List (List ℕ)) → length words ≢ 2 → Usage ≡ drill_with words
+not_two [] other = refl
+not_two (a ∷ []) other = refl
+not_two (a ∷ b ∷ []) other = absurd (other refl)
+not_two (a ∷ b ∷ c ∷ words) other = refl

@@ -3,6 +3,7 @@ pub mod Crews
 pub mod Cuts
 pub mod Numerals
 pub mod Pieces
+pub mod Printed
 pub mod ProxyStarts
 pub mod Sites
 pub mod Starts

@@ -64,9 +64,12 @@ abbrev pub drill_by : Option ℕ → Option ℕ → Command
 drill_by (Some seed) (Some steps) = Drill seed steps
 drill_by _ _ = Usage
 
+abbrev pub drill_of : List ℕ → List ℕ → Command
+drill_of a b = drill_by (option_or (seed_in a) (seed_in b)) (option_or (steps_in a) (steps_in b))
+
 -- `drill` has these two options, in either order, and no other words.
 abbrev pub drill_with : List (List ℕ) → Command
-drill_with (a ∷ b ∷ []) = drill_by (option_or (seed_in a) (seed_in b)) (option_or (steps_in a) (steps_in b))
+drill_with (a ∷ b ∷ []) = drill_of a b
 drill_with words = Usage
 
 -- ---- all of them

@@ -2,7 +2,7 @@
 ghost use Rattle.std.specs.Prelude.{◌≡◌, ◌≢◌, ◌≤◌, ◌∷◌, [], IfSome, length, map, string_bytes};
 ghost use Rattle.drill.specs.declared.drilling.TheConstants.{MOST_STEPS};
 ghost use Rattle.authd.specs.Commands.{meaning};
-ghost use Rattle.authd.specs.Options.{asked_for, asked_of_others, drill_with, is_option, option_number, rounds_in, seed_in, steps_in, takes_rounds, with_option};
+ghost use Rattle.authd.specs.Options.{asked_for, asked_of_others, drill_of, drill_with, is_option, option_number, rounds_in, seed_in, steps_in, takes_rounds, with_option};
 
 use crate::account::Account;
 use crate::command::{Command, command_of, is_word};
@@ -37,14 +37,15 @@ fn drill_with(options: &[String]) -> Command<'_>
     ensures { meaning result ≡ drill_with (map string_bytes options.now) }
 {
     match options {
+        [] | [_] => Command::Usage,
         [a, b] => drill_of(a.as_bytes(), b.as_bytes()),
-        _ => Command::Usage,
+        [_, _, _, ..] => Command::Usage,
     }
 }
 
 /// `drill` with these options.
 fn drill_of<'w>(a: &[u8], b: &[u8]) -> Command<'w>
-    ensures { meaning result ≡ drill_with (a.now ∷ b.now ∷ []) }
+    ensures { meaning result ≡ drill_of a.now b.now }
 {
     let seed = seed_in(a).or(seed_in(b));
     let steps = steps_in(a).or(steps_in(b));

@@ -1,5 +1,5 @@
 -- A decimal text is its number, where that is in the range, and another text is none.
-use Rattle.std.proofs.Common.{◌≡◌, ◌<◌, ◌^◌, ◌∙◌, ℕ, refl, sym, arith, rules}
+use Rattle.std.proofs.Common.{◌∙◌, refl, sym, rules}
 use Rattle.authd.proofs.Numerals.{read_none, read_number}
 use Rattle.authd.proofs.numbers.number_in.Goals as goal
 
