@@ -1,5 +1,5 @@
 use Rattle.std.proofs.Common.{◌≡◌, ℕ, Bool, true, false, ◌&&◌, ◌||◌, ◌==◌, if◌then◌else◌, inl, inr, List, [], ◌∷◌, ◌++◌, Some, refl, ap, sym, ◌∙◌, append_assoc, subst, IsTrue, map, not, ◌+◌, ◌<◌, nat_lt, length, take, drop, arith}
-use Rattle.std.specs.List.{list_all, take_while, flat_map}
+use Rattle.std.specs.List.{list_all, list_any, take_while, flat_map}
 use Rattle.std.proofs.lemmas.List.{append-nil, take-append-drop}
 use Rattle.std.proofs.lemmas.List.Sums.{take_while-cons}
 use Rattle.std.proofs.lemmas.List.Folds.{length-prefix_len}
@@ -22,9 +22,19 @@ use Rattle.auth_grammar.specs.Grammar.{Spot, Text, spots, bytes, StartsAt, AllOf
 use Rattle.auth_grammar.specs.Items.{placed, with_element, grouping, unplaced, item_of, SpellsChallenges, SpellsCredentials, SpellsParams}
 use Rattle.auth_grammar.specs.Names.{has_repeat}
 use Rattle.auth_grammar.specs.Valid.{is_token_text, token68_len, is_token68_text, is_quotable_text, is_valid_param, are_valid_params, is_valid_rest, is_valid}
-use Rattle.auth_grammar.specs.Writing.{is_bare_name, escaped, value_text, param_text, params_text, item_text, items_text}
+use Rattle.auth_grammar.specs.Writing.{is_bare_name, is_escaped, escaped, value_text, param_text, params_text, item_text, items_text}
 use Rattle.auth_grammar.proofs.FormReadings.{left_of, right_of, equals_61}
 use Rattle.auth_grammar.proofs.ElementLists.{spots_append}
+
+-- a text of which nothing is escaped is written as it is
+one_unescaped : (here later : Bool) (b : ℕ) (value written : List ℕ) → (here || later) ≡ false → (later ≡ false → written ≡ value)
+    → (if here then 92 ∷ b ∷ written else (b ∷ written)) ≡ b ∷ value
+one_unescaped true later b value written h rest = absurd (cc h)
+one_unescaped false later b value written h rest = ap (λ (x : List ℕ). b ∷ x) (rest h)
+
+pub none_escaped : (value : List ℕ) → list_any is_escaped value ≡ false → escaped value ≡ value
+none_escaped [] h = refl
+none_escaped (b ∷ value) h = one_unescaped (is_escaped b) (list_any is_escaped value) b value (escaped value) h (none_escaped value)
 
 -- bytes that know their places
 bytes_spots : (at : ℕ) (a : List ℕ) → bytes (spots at a) ≡ a

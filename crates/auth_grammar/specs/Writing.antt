@@ -21,10 +21,14 @@ bare_names Info = codes "qop" ∷ codes "nc" ∷ []
 abbrev pub is_bare_name : Quoting → List ℕ → Bool
 is_bare_name quoting name = list_any (λ bare. same_name bare name) (bare_names quoting)
 
+-- a quote or a backslash
+abbrev pub is_escaped : ℕ → Bool
+is_escaped b = is_quote (kind_of b) || is_backslash (kind_of b)
+
 -- a backslash before each quote and backslash
 abbrev pub escaped : List ℕ → List ℕ
 escaped [] = []
-escaped (b ∷ value) = if is_quote (kind_of b) || is_backslash (kind_of b) then 92 ∷ b ∷ escaped value else (b ∷ escaped value)
+escaped (b ∷ value) = if is_escaped b then 92 ∷ b ∷ escaped value else (b ∷ escaped value)
 
 -- a value, bare or in quotes
 abbrev pub value_text : Bool → List ℕ → List ℕ

@@ -45,6 +45,15 @@ impl Octets {
         }
     }
 
+    /// The empty string, with memory for so many bytes.
+    pub fn with_capacity(alloc: Global, capacity: usize) -> Result<Octets, OutOfMemory>
+        ensures { IfOk result (λ o. o ≡ []) }
+    {
+        Ok(Octets {
+            bytes: Vec::with_capacity(alloc, capacity)?,
+        })
+    }
+
     /// A copy of the bytes.
     pub fn of(alloc: Global, bytes: &[u8]) -> Result<Octets, OutOfMemory>
         ensures { IfOk result (λ o. o ≡ bytes.now) }

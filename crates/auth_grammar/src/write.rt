@@ -1,9 +1,9 @@
 //! Writing items and parameters.
 ghost use Rattle.std.specs.Prelude.{◌≡◌, ◌∷◌, ◌++◌, [], IfOk, IsTrue, OnOk, codes};
-ghost use Rattle.std.specs.List.{list_all};
+ghost use Rattle.std.specs.List.{list_all, list_any};
 ghost use Rattle.auth_grammar.specs.Items.{SpellsChallenges, SpellsParams};
 ghost use Rattle.auth_grammar.specs.Valid.{are_valid_params, is_valid};
-ghost use Rattle.auth_grammar.specs.Writing.{escaped, is_bare_name, item_text, items_text, param_text, params_text, rest_text, separator_at, value_text};
+ghost use Rattle.auth_grammar.specs.Writing.{escaped, is_bare_name, is_escaped, item_text, items_text, param_text, params_text, rest_text, separator_at, value_text};
 
 use crate::items::{Item, ItemList, Param, ParamList, Quoting, Rest};
 use crate::kinds::{Kind, kind_at};
@@ -12,13 +12,16 @@ use crate::octets::{Octets, OutOfMemory};
 use crate::valid::is_token;
 use std::alloc::Global;
 
+/// How many bytes a text has room for at first, so that a usual one is written with no growing.
+const USUAL_BYTES: usize = 256;
+
 /// Writes items in their one text: joined with `, `, and each value bare where it may be and is a
 /// token, else in quotes. Of valid items (`Item::valid`) the text spells them again.
 pub fn write_items(alloc: Global, items: &ItemList, quoting: Quoting) -> Result<Octets, OutOfMemory>
     ensures text { IfOk result (λ text. text ≡ items_text quoting items.now) }
     ensures spelled { IfOk result (λ text. IsTrue (list_all is_valid items.now) → SpellsChallenges text items.now) }
 {
-    let mut out = Octets::new(alloc);
+    let mut out = Octets::with_capacity(alloc, USUAL_BYTES)?;
     for (i, item) in items.as_slice().iter().enumerate() {
         push_separator(&mut out, i)?;
         push_item(&mut out, item, quoting)?;
@@ -35,7 +38,7 @@ pub fn write_params(
     ensures text { IfOk result (λ text. text ≡ params_text quoting params.now) }
     ensures spelled { IfOk result (λ text. IsTrue (are_valid_params params.now) → SpellsParams text params.now) }
 {
-    let mut out = Octets::new(alloc);
+    let mut out = Octets::with_capacity(alloc, USUAL_BYTES)?;
     push_params(&mut out, params.as_slice(), quoting)?;
     Ok(out)
 }
@@ -132,7 +135,19 @@ fn push_value(out: &mut Octets, bare: bool, value: &[u8]) -> Result<(), OutOfMem
 }
 
 /// Adds a value with a backslash before each quote and backslash.
+#[tactic(auto, using(crate::proofs::Written::none_escaped))]
 fn push_escaped(out: &mut Octets, value: &[u8]) -> Result<(), OutOfMemory>
+    ensures { OnOk result (out.new ≡ out.old ++ escaped value.now) }
+{
+    if has_escaped(value) {
+        push_each_escaped(out, value)
+    } else {
+        out.extend(value)
+    }
+}
+
+/// Adds a value byte by byte, with a backslash before each quote and backslash.
+fn push_each_escaped(out: &mut Octets, value: &[u8]) -> Result<(), OutOfMemory>
     ensures { OnOk result (out.new ≡ out.old ++ escaped value.now) }
 {
     for b in value {
@@ -145,8 +160,22 @@ fn push_escaped(out: &mut Octets, value: &[u8]) -> Result<(), OutOfMemory>
 fn push_quotable(out: &mut Octets, b: u8) -> Result<(), OutOfMemory>
     ensures { OnOk result (out.new ≡ out.old ++ escaped (b ∷ [])) }
 {
-    if matches!(kind_at(b), Kind::Quote | Kind::Backslash) {
+    if is_escaped(b) {
         out.push(b'\\')?;
     }
     out.push(b)
+}
+
+/// Whether some byte stands behind a backslash in quotes.
+fn has_escaped(value: &[u8]) -> bool
+    ensures { result ≡ list_any is_escaped value.now }
+{
+    value.iter().any(|&b| is_escaped(b))
+}
+
+/// Whether a byte stands behind a backslash in quotes: a quote or a backslash.
+fn is_escaped(b: u8) -> bool
+    ensures { result ≡ is_escaped b }
+{
+    matches!(kind_at(b), Kind::Quote | Kind::Backslash)
 }
