@@ -3,6 +3,5 @@ pub mod Folds
 pub mod Few
 pub mod Within
 pub mod Calls
-pub mod OneLine
 pub mod Refusals
 pub mod Verifying

@@ -1,15 +1,14 @@
 //! The credentials of a request, as the lines of their field say them.
-ghost use Rattle.std.specs.Prelude.{◌≡◌, IfOk};
+ghost use Rattle.std.specs.Prelude.{◌≡◌, ◌∷◌, [], ℕ, IfOk, List};
+ghost use Rattle.http_wire.specs.Values.{AreValues};
 ghost use Rattle.auth_decide.specs.Credentials.{LinesSay, Reads, credentials_field, credentials_lines, nonce_in, other_scheme, presented};
 
 use crate::scram_message::ScramMessage;
 use crate::scram_reading::{SCRAM_SCHEME, message_in, name_of};
 use crate::verdict::Why;
-use auth_grammar::{
-    GrammarError, Item, OctetsList, OutOfMemory, Role, read_credentials, same_name,
-};
+use auth_grammar::{GrammarError, Item, OutOfMemory, Role, read_credentials, same_name};
 use digest_fields::{DigestCredentials, FieldError};
-use http_wire::Request;
+use http_wire::{Request, Values};
 use nonce_shard::TableName;
 use std::alloc::Global;
 use std::fmt;
@@ -93,18 +92,25 @@ pub fn credentials_field(role: Role) -> &'static [u8]
     }
 }
 
-/// What the lines of the field say.
-fn field_of(alloc: Global, lines: &OctetsList) -> Result<CredentialsField, OutOfMemory>
-    ensures { IfOk result (λ field. LinesSay lines.now field) }
+/// What the one line of the field says.
+fn line_says(alloc: Global, line: &[u8]) -> Result<CredentialsField, OutOfMemory>
+    ensures { IfOk result (λ field. LinesSay (line.now ∷ []) field) }
 {
-    match lines.as_slice() {
-        [] => Ok(CredentialsField::Absent),
-        [line] => match read_credentials(alloc, line.bytes()) {
-            Ok(item) => Ok(CredentialsField::Item(item)),
-            Err(GrammarError::OutOfMemory) => Err(OutOfMemory),
-            Err(_) => Ok(CredentialsField::Malformed),
-        },
-        _ => Ok(CredentialsField::Malformed),
+    match read_credentials(alloc, line) {
+        Ok(item) => Ok(CredentialsField::Item(item)),
+        Err(GrammarError::OutOfMemory) => Err(OutOfMemory),
+        Err(_) => Ok(CredentialsField::Malformed),
+    }
+}
+
+/// What the lines of the field say.
+fn field_of(alloc: Global, values: Values) -> Result<CredentialsField, OutOfMemory>
+    ensures { (lines : List (List ℕ)) → AreValues lines values.entry → IfOk result (λ field. LinesSay lines field) }
+{
+    match values {
+        Values::Absent => Ok(CredentialsField::Absent),
+        Values::One(line) => line_says(alloc, line),
+        Values::Several => Ok(CredentialsField::Malformed),
     }
 }
 
@@ -149,14 +155,14 @@ fn nonce_in(presented: &Presented) -> &[u8]
 }
 
 /// The credentials that the lines of the field say, and what they present.
-fn read_lines(
+fn read_values(
     alloc: Global,
-    lines: &OctetsList,
+    values: Values,
 ) -> Result<(RequestCredentials, Presented), OutOfMemory>
-    ensures reads { IfOk result (λ read. Reads lines.now read.0) }
+    ensures reads { (lines : List (List ℕ)) → AreValues lines values.entry → IfOk result (λ read. Reads lines read.0) }
     ensures presented { IfOk result (λ read. read.1 ≡ presented read.0.field) }
 {
-    let field = field_of(alloc, lines)?;
+    let field = field_of(alloc, values)?;
     let presented = presented_by(alloc, &field)?;
     let nonce = name_of(nonce_in(&presented));
     let scram = message_in(alloc, &field)?;
@@ -179,6 +185,5 @@ pub(crate) fn read_request(
     ensures reads { IfOk result (λ read. Reads (credentials_lines role request.now) read.0) }
     ensures presented { IfOk result (λ read. read.1 ≡ presented read.0.field) }
 {
-    let lines = request.fields.lines(alloc, credentials_field(role))?;
-    read_lines(alloc, &lines)
+    read_values(alloc, request.fields.values(credentials_field(role)))
 }

@@ -130,8 +130,8 @@ impl Fields {
         Ok(pairs)
     }
 
-    // the values of a name, which is given in lower case
-    pub(crate) fn values(&self, name: &[u8]) -> Values<'_>
+    /// The one value of a name, which is given in lower case, or that it has none or several. It takes no memory.
+    pub fn values(&self, name: &[u8]) -> Values<'_>
         ensures { AreValues (values_of self.now name.now) result }
     {
         let mut found = Values::Absent;

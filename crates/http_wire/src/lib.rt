@@ -34,6 +34,7 @@ pub use request_text::write_request;
 pub use response::{NextResponse, Response};
 pub use response_feed::ResponseFeed;
 pub use streams::{requests_of, response_of};
+pub use values::Values;
 
 #[cfg(test)]
 mod tests;

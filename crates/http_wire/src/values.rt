@@ -9,11 +9,14 @@ ghost use Rattle.http_wire.specs.Values.{is_number, parts_at_commas};
 
 use auth_grammar::same_name;
 
-/// The values of one name.
+/// What a message's lines of one name say (RFC 9110 section 5.2).
 #[derive(Clone, Copy)]
-pub(crate) enum Values<'a> {
+pub enum Values<'a> {
+    /// There is no such line.
     Absent,
+    /// There is one, with this value.
     One(&'a [u8]),
+    /// There are several.
     Several,
 }
 
