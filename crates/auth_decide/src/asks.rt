@@ -5,6 +5,7 @@ ghost use Rattle.nonce_shard.specs.Replies.{Fits};
 ghost use Rattle.nonce_shard.specs.Names.{name_text};
 ghost use Rattle.auth_decide.specs.Asks.{issue, peek, given_prime, use_of, open_of, take_of, keep_of, recall_of, reuse_of, scram_admission, admission, verdict_with, ask_at};
 ghost use Rattle.auth_decide.specs.Decisions.{AsksWithin, FitsTable};
+ghost use Rattle.auth_decide.specs.Stages.{shard_for};
 
 use crate::candidate::prime_of;
 use crate::challenges::{Stale, continue_item, items_of, nonce_kind};
@@ -18,29 +19,49 @@ use nonce_shard::{Call, NonceKind, Prime, TableName, What};
 use spaces_map::Space;
 use std::alloc::Global;
 
-fn issue(moment: u64, space: &Space, words: [u8; 16]) -> Call
-    ensures { result ≡ issue moment space.now words }
+/// A call of a shard of the table.
+fn table(shard: u16, call: Call) -> Ask
+    ensures { result ≡ Ask.Table shard call }
 {
-    Call {
+    Ask::Table { shard, call }
+}
+
+/// The shard that the first random byte of a new name chooses.
+fn shard_for(words: &[u8; 16], shards: u16) -> u16
+    requires { 0 < shards }
+    ensures chosen { result ≡ shard_for shards words.now }
+    ensures within { shard_for shards words.now < shards }
+{
+    u16::from(words[0]) % shards
+}
+
+fn issue(moment: u64, shards: u16, space: &Space, words: [u8; 16]) -> Ask
+    requires { 0 < shards }
+    ensures asked { result ≡ Ask.Table (shard_for shards words) (issue moment space.now words) }
+    ensures within { shard_for shards words < shards }
+{
+    let call = Call {
         moment,
         what: What::Issue {
             kind: nonce_kind(space.offers.as_slice()),
             space: space.number,
             random: words,
         },
-    }
+    };
+    table(shard_for(&words, shards), call)
 }
 
-fn peek(moment: u64, space: &Space, nonce: TableName) -> Call
-    ensures { result ≡ peek moment space.now nonce }
+fn peek(moment: u64, space: &Space, nonce: TableName) -> Ask
+    ensures { result ≡ Ask.Table nonce.shard (peek moment space.now nonce) }
 {
-    Call {
+    let call = Call {
         moment,
         what: What::Peek {
             nonce,
             space: space.number,
         },
-    }
+    };
+    table(nonce.shard, call)
 }
 
 /// The prime that a use gives: that of the session, and none for another kind.
@@ -54,11 +75,11 @@ fn given_prime(verified: &Verified) -> Option<Prime>
     }
 }
 
-fn use_of(moment: u64, space: &Space, nonce: TableName, verified: &Verified) -> Call
-    ensures call { result ≡ use_of moment space.now nonce verified.now }
-    ensures fits { Fits result.what }
+fn use_of(moment: u64, space: &Space, nonce: TableName, verified: &Verified) -> Ask
+    ensures asked { result ≡ Ask.Table nonce.shard (use_of moment space.now nonce verified.now) }
+    ensures fits { Fits (use_of moment space.now nonce verified.now).what }
 {
-    Call {
+    let call = Call {
         moment,
         what: What::Use {
             nonce,
@@ -67,64 +88,71 @@ fn use_of(moment: u64, space: &Space, nonce: TableName, verified: &Verified) -> 
             count: verified.candidate.credentials.nc.number(),
             prime: given_prime(verified),
         },
-    }
+    };
+    table(nonce.shard, call)
 }
 
-fn open_of(moment: u64, space: &Space, new: &NewExchange, words: [u8; 16]) -> Call
-    ensures { result ≡ open_of moment space.now new.now words }
+fn open_of(moment: u64, shards: u16, space: &Space, new: &NewExchange, words: [u8; 16]) -> Ask
+    requires { 0 < shards }
+    ensures asked { result ≡ Ask.Table (shard_for shards words) (open_of moment space.now new.now words) }
+    ensures within { shard_for shards words < shards }
 {
-    Call {
+    let call = Call {
         moment,
         what: What::Open {
             space: space.number,
             random: words,
             exchange: exchange_copy(&new.exchange),
         },
-    }
+    };
+    table(shard_for(&words, shards), call)
 }
 
-fn take_of(moment: u64, space: &Space, sid: TableName) -> Call
-    ensures { result ≡ take_of moment space.now sid }
+fn take_of(moment: u64, space: &Space, sid: TableName) -> Ask
+    ensures { result ≡ Ask.Table sid.shard (take_of moment space.now sid) }
 {
-    Call {
+    let call = Call {
         moment,
         what: What::Take {
             sid,
             space: space.number,
         },
-    }
+    };
+    table(sid.shard, call)
 }
 
-fn keep_of(moment: u64, space: &Space, sid: TableName) -> Call
-    ensures { result ≡ keep_of moment space.now sid }
+fn keep_of(moment: u64, space: &Space, sid: TableName) -> Ask
+    ensures { result ≡ Ask.Table sid.shard (keep_of moment space.now sid) }
 {
-    Call {
+    let call = Call {
         moment,
         what: What::Keep {
             sid,
             space: space.number,
         },
-    }
+    };
+    table(sid.shard, call)
 }
 
-fn recall_of(moment: u64, space: &Space, sid: TableName) -> Call
-    ensures { result ≡ recall_of moment space.now sid }
+fn recall_of(moment: u64, space: &Space, sid: TableName) -> Ask
+    ensures { result ≡ Ask.Table sid.shard (recall_of moment space.now sid) }
 {
-    Call {
+    let call = Call {
         moment,
         what: What::Recall {
             sid,
             space: space.number,
         },
-    }
+    };
+    table(sid.shard, call)
 }
 
-fn reuse_of(moment: u64, space: &Space, sr: TableName, count: u32) -> Call
+fn reuse_of(moment: u64, space: &Space, sr: TableName, count: u32) -> Ask
     requires { 0 < count }
-    ensures call { result ≡ reuse_of moment space.now sr count }
-    ensures fits { Fits result.what }
+    ensures asked { result ≡ Ask.Table sr.shard (reuse_of moment space.now sr count) }
+    ensures fits { Fits (reuse_of moment space.now sr count).what }
 {
-    Call {
+    let call = Call {
         moment,
         what: What::Use {
             nonce: sr,
@@ -133,7 +161,8 @@ fn reuse_of(moment: u64, space: &Space, sr: TableName, count: u32) -> Call
             count,
             prime: None,
         },
-    }
+    };
+    table(sr.shard, call)
 }
 
 fn scram_admission(user: &ScramUser) -> Result<Verdict, OutOfMemory>
@@ -196,51 +225,34 @@ pub(crate) fn ask_at(
         Stage::Open => Ok(open(alloc)),
         Stage::Bad(why) => Ok(Ask::Verdict(Verdict::Bad { why: *why })),
         Stage::Drawing(_) => Ok(Ask::Draw),
-        Stage::Issuing(_, words) => Ok(Ask::Table {
-            shard: u16::from(words[0]) % shards,
-            call: issue(moment, space, *words),
-        }),
+        Stage::Issuing(_, words) => Ok(issue(moment, shards, space, *words)),
         Stage::Issued(purpose, nonce) => Ok(Ask::Verdict(verdict_with(
             alloc, role, space, purpose, nonce,
         )?)),
-        Stage::Peeking(_, nonce) => Ok(Ask::Table {
-            shard: nonce.shard,
-            call: peek(moment, space, *nonce),
-        }),
-        Stage::Using(verified, nonce) => Ok(Ask::Table {
-            shard: nonce.shard,
-            call: use_of(moment, space, *nonce, verified),
-        }),
+        Stage::Peeking(_, nonce) => Ok(peek(moment, space, *nonce)),
+        Stage::Using(verified, nonce) => Ok(use_of(moment, space, *nonce, verified)),
         Stage::Admitted(verified) => Ok(Ask::Verdict(admission(verified, None)?)),
         Stage::Beginning(_) => Ok(Ask::Draw),
-        Stage::Opening(new, words) => Ok(Ask::Table {
-            shard: u16::from(words[0]) % shards,
-            call: open_of(moment, space, new, *words),
-        }),
+        Stage::Opening(new, words) => Ok(open_of(moment, shards, space, new, *words)),
         Stage::Continued(new, sid) => Ok(Ask::Verdict(Verdict::Continue {
             item: continue_item(alloc, new, sid)?,
         })),
-        Stage::Taking(attempt) => Ok(Ask::Table {
-            shard: attempt.sid.shard,
-            call: take_of(moment, space, attempt.sid),
-        }),
-        Stage::Keeping(user) => Ok(Ask::Table {
-            shard: user.sid.shard,
-            call: keep_of(moment, space, user.sid),
-        }),
-        Stage::Recalling(attempt, _) => Ok(Ask::Table {
-            shard: attempt.sid.shard,
-            call: recall_of(moment, space, attempt.sid),
-        }),
-        Stage::Reusing(_, sr, count) => Ok(Ask::Table {
-            shard: sr.shard,
-            call: reuse_of(moment, space, *sr, *count),
-        }),
+        Stage::Taking(attempt) => Ok(take_of(moment, space, attempt.sid)),
+        Stage::Keeping(user) => Ok(keep_of(moment, space, user.sid)),
+        Stage::Recalling(attempt, _) => Ok(recall_of(moment, space, attempt.sid)),
+        Stage::Reusing(_, sr, count) => Ok(reuse_of(moment, space, *sr, *count)),
         Stage::Authenticated(user) => Ok(Ask::Verdict(scram_admission(user)?)),
-        Stage::Mismatched => Ok(Ask::Verdict(Verdict::Challenge {
-            items: ItemList::new(alloc),
-        })),
+        Stage::Mismatched => Ok(unasked(alloc)),
     }
+}
+
+/// The verdict where an answer was of another kind than was asked for.
+fn unasked(alloc: Global) -> Ask
+    ensures { result ≡ Ask.Verdict (Verdict.Challenge []) }
+{
+    Ask::Verdict(Verdict::Challenge {
+        items: ItemList::new(alloc),
+    })
 }
 
 /// The verdict where no credentials are asked for.
