@@ -45,53 +45,41 @@ pub fn copy_call(call: &Call) -> Call
 fn copy_what(what: &What) -> What
     ensures { result ≡ what.now }
 {
-    match what {
+    match *what {
         What::Issue {
             kind,
             space,
             random,
         } => What::Issue {
-            kind: *kind,
-            space: *space,
-            random: *random,
+            kind,
+            space,
+            random,
         },
-        What::Peek { nonce, space } => What::Peek {
-            nonce: *nonce,
-            space: *space,
-        },
+        What::Peek { nonce, space } => What::Peek { nonce, space },
         What::Use {
             nonce,
             kind,
             space,
             count,
-            prime,
+            ref prime,
         } => What::Use {
-            nonce: *nonce,
-            kind: *kind,
-            space: *space,
-            count: *count,
+            nonce,
+            kind,
+            space,
+            count,
             prime: copy_optional_prime(prime),
         },
         What::Open {
             space,
             random,
-            exchange,
+            ref exchange,
         } => What::Open {
-            space: *space,
-            random: *random,
+            space,
+            random,
             exchange: copy_exchange(exchange),
         },
-        What::Take { sid, space } => What::Take {
-            sid: *sid,
-            space: *space,
-        },
-        What::Keep { sid, space } => What::Keep {
-            sid: *sid,
-            space: *space,
-        },
-        What::Recall { sid, space } => What::Recall {
-            sid: *sid,
-            space: *space,
-        },
+        What::Take { sid, space } => What::Take { sid, space },
+        What::Keep { sid, space } => What::Keep { sid, space },
+        What::Recall { sid, space } => What::Recall { sid, space },
     }
 }

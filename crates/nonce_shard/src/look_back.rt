@@ -10,7 +10,7 @@ ghost use Rattle.nonce_shard.specs.Totals.{is_repeated, totals_of};
 mod exchanges;
 mod nonces;
 
-use crate::calls::{Call, NonceKind, Reply, What};
+use crate::calls::{Call, Reply, What};
 use crate::copies::copy_call;
 use crate::exchanges::{reply_to_keep, reply_to_recall, reply_to_take};
 use crate::history::Answered;
@@ -18,7 +18,7 @@ use crate::nonces::Wanted;
 use crate::sizes::Setting;
 use crate::totals::Totals;
 use exchanges::{count_openings, find_opening, progress_of};
-use nonces::{copy_found_prime, count_nonces, find_prime, is_nonce_live, reply_to_use};
+use nonces::{count_nonces, is_nonce_live, reply_to_peek, reply_to_use};
 
 fn next_time(past: &[Answered], moment: u64) -> u64
     ensures { result ≡ time_at past.now moment }
@@ -35,20 +35,7 @@ fn reply_of(setting: &Setting, past: &[Answered], now: u64, what: &What) -> Repl
         What::Issue { .. } => Reply::Issued {
             serial: count_nonces(past) as u64,
         },
-        What::Peek { nonce, space } => {
-            let wanted = Wanted {
-                kind: NonceKind::Digest,
-                space: *space,
-                time: now,
-            };
-            if is_nonce_live(setting, past, nonce, &wanted) {
-                Reply::Prime {
-                    prime: copy_found_prime(find_prime(past, nonce)),
-                }
-            } else {
-                Reply::Gone
-            }
-        }
+        What::Peek { nonce, space } => reply_to_peek(setting, past, nonce, *space, now),
         What::Use {
             nonce,
             kind,
@@ -56,11 +43,7 @@ fn reply_of(setting: &Setting, past: &[Answered], now: u64, what: &What) -> Repl
             count,
             prime,
         } => {
-            let wanted = Wanted {
-                kind: *kind,
-                space: *space,
-                time: now,
-            };
+            let wanted = Wanted::new(*kind, *space, now);
             if is_nonce_live(setting, past, nonce, &wanted) {
                 reply_to_use(past, nonce, *count, prime)
             } else {

@@ -24,6 +24,15 @@ pub struct Wanted {
     pub time: u64,
 }
 
+impl Wanted {
+    /// For credentials of this kind, in this space, at this time.
+    pub fn new(kind: NonceKind, space: u32, time: u64) -> Wanted
+        ensures { result ≡ record { kind = kind; space = space; time = time } }
+    {
+        Wanted { kind, space, time }
+    }
+}
+
 fn is_named(number: u16, name: &TableName, nonce: &Nonce) -> bool
     ensures { result ≡ names_nonce number name.now nonce.now }
 {

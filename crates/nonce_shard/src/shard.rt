@@ -88,7 +88,8 @@ impl Shard {
         ensures reply { RepliesTo (HoldsPast self.old) self.old.setting now what.now result }
         ensures nonces { HoldsNext (HoldsNonces self.old.setting self.old.nonces) (HoldsNonces self.old.setting self.new.nonces)
             now what.now result }
-        ensures exchanges { HoldsNext (HoldsExchanges self.old.setting self.old.exchanges) (HoldsExchanges self.old.setting self.new.exchanges)
+        ensures exchanges { HoldsNext (HoldsExchanges self.old.setting self.old.exchanges)
+            (HoldsExchanges self.old.setting self.new.exchanges)
             now what.now result }
         ensures rest { self.new ≡ record self.old { nonces = self.new.nonces; exchanges = self.new.exchanges } }
     {
@@ -113,13 +114,9 @@ impl Shard {
                 count,
                 prime,
             } => {
-                let wanted = Wanted {
-                    kind: *kind,
-                    space: *space,
-                    time: now,
-                };
-                self.nonces
-                    .use_nonce(&self.setting, nonce, &wanted, *count, prime)
+                let wanted = Wanted::new(*kind, *space, now);
+                let nonces = &mut self.nonces;
+                nonces.use_nonce(&self.setting, nonce, &wanted, *count, prime)
             }
             What::Open {
                 space,

@@ -2,9 +2,10 @@
 ghost use Rattle.std.specs.Prelude.{◌≡◌, ◌<◌, true, length, slice_get};
 ghost use Rattle.std.specs.Option.{option_copied};
 ghost use Rattle.count_window.specs.Window.{high, is_admitted};
+ghost use Rattle.nonce_shard.specs.Replies.{reply_to};
 ghost use Rattle.nonce_shard.specs.Nonces.{nonce_in, nonces, is_live, fresh_count, admitted, fresh_prime, first_prime, use_reply};
 
-use crate::calls::{Prime, Reply, What};
+use crate::calls::{NonceKind, Prime, Reply, What};
 use crate::copies::copy_prime;
 use crate::history::Answered;
 use crate::names::{TableName, is_same};
@@ -139,6 +140,25 @@ fn was_admitted(past: &[Answered], name: &TableName, count: u32) -> bool
     past.iter()
         .filter_map(|a| count_of(name, a))
         .any(|c| c == count)
+}
+
+/// The reply to a peek at a nonce, for a space, at a time.
+pub fn reply_to_peek(
+    setting: &Setting,
+    past: &[Answered],
+    name: &TableName,
+    space: u32,
+    now: u64,
+) -> Reply
+    ensures { result ≡ reply_to setting.now.sizes setting.now.number past.now now (What.Peek name.now space) }
+{
+    let wanted = Wanted::new(NonceKind::Digest, space, now);
+    if !is_nonce_live(setting, past, name, &wanted) {
+        return Reply::Gone;
+    }
+    Reply::Prime {
+        prime: copy_found_prime(find_prime(past, name)),
+    }
 }
 
 /// The reply to the use of a live nonce.
