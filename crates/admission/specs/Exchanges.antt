@@ -68,7 +68,8 @@ pub record Proves (q : Question) (space : Space) (sid : TableName) (message : Fi
       (auth_message e.bare.items (server_first_text (parts.nonce ++ name_text sid) keys.salt.items keys.i) message.without) message.proof
 
 -- It does so by the nonce of the exchange: the client's, and then the name.
-pub record ProvesFirst (q : Question) (space : Space) (sid : TableName) (message : FinalMessage) (e : Exchange) (user : List ℕ) : Type 0 where
+pub record ProvesFirst (q : Question) (space : Space) (sid : TableName) (message : FinalMessage) (e : Exchange)
+    (user : List ℕ) : Type 0 where
   pub proves : Proves q space sid message e user
   pub nonce : message.nonce ≡ proves.parts.nonce ++ name_text sid
 
@@ -94,7 +95,8 @@ abbrev pub TriesRightly : Sizes → Question → List Step → Verdict → Type 
 TriesRightly sizes q steps verdict = (space : Space) (sid : TableName) (message : FinalMessage) → BringsFinal q space sid message
     → sid.shard < q.shards → NamesExchange sid message
     → (t : Tries q space sid steps)
-    × ((user : List ℕ) → Admits user verdict ↔ ((e : Exchange) × Gives sizes q space sid t.before e × ProvesFirst q space sid message e user))
+    × ((user : List ℕ)
+    → Admits user verdict ↔ ((e : Exchange) × Gives sizes q space sid t.before e × ProvesFirst q space sid message e user))
 
 -- So it is whatever was drawn, and behind whatever calls its own were answered.
 abbrev pub AdmitsByTry : Type 0
@@ -153,7 +155,8 @@ AdmitsAgain = (sizes : Sizes) (q : Question) → Reads (credentials_lines q.role
 -- ---- no other
 
 -- The try was taken, which gave an exchange in which the user is proved, and the exchange was to be kept. Nothing else was done.
-pub record EndsKept (sizes : Sizes) (q : Question) (space : Space) (sid : TableName) (message : FinalMessage) (user : List ℕ) (steps : List Step) : Type 0 where
+pub record EndsKept (sizes : Sizes) (q : Question) (space : Space) (sid : TableName) (message : FinalMessage)
+    (user : List ℕ) (steps : List Step) : Type 0 where
   pub before : List Call
   pub kept : List Call
   pub is : steps ≡ Called sid.shard before (take_of q.moment space sid) ∷ Called sid.shard kept (keep_of q.moment space sid) ∷ []
@@ -163,7 +166,8 @@ pub record EndsKept (sizes : Sizes) (q : Question) (space : Space) (sid : TableN
 
 -- A finished exchange was looked up, in which the user is proved, and a count of an `sr` was used and answered Fresh. Nothing
 -- else was done.
-pub record EndsReused (sizes : Sizes) (q : Question) (space : Space) (sid : TableName) (message : FinalMessage) (user : List ℕ) (steps : List Step) : Type 0 where
+pub record EndsReused (sizes : Sizes) (q : Question) (space : Space) (sid : TableName) (message : FinalMessage)
+    (user : List ℕ) (steps : List Step) : Type 0 where
   pub count : ℕ
   pub text : List ℕ
   pub counts : CountsAgain sid message count text

@@ -21,4 +21,5 @@ verified_of request c prime = if is_right request c prime then Some (verified c 
 
 -- a hash that has taken what their response begins with, by this secret
 abbrev pub IsHashOf : ResponseHash → Candidate → List ℕ → Type 0
-IsHashOf hash c secret = IsResponseHash hash c.credentials.kind.alg secret c.credentials.nonce c.credentials.nc c.credentials.cnonce c.credentials.qop
+IsHashOf hash c secret =
+    IsResponseHash hash c.credentials.kind.alg secret c.credentials.nonce c.credentials.nc c.credentials.cnonce c.credentials.qop

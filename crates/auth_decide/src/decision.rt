@@ -169,7 +169,8 @@ impl<'a> Decision<'a> {
     /// nobody from then on.
     pub fn answer(&mut self, alloc: Global, reply: &Reply) -> Result<(), OutOfMemory>
         requires { IsCallFor reply.now (ask_of self.old) }
-        ensures stage { OnOk result (self.new ≡ record self.old { stage = stage_after self.old.question self.old.stage (Replied reply.now) }) }
+        ensures stage { OnOk result
+            (self.new ≡ record self.old { stage = stage_after self.old.question self.old.stage (Replied reply.now) }) }
         ensures fewer { OnOk result (asks_left self.new.stage < asks_left self.old.stage) }
         ensures spent { OnErr result (self.new ≡ record self.old { stage = Stage.Mismatched }) }
     {

@@ -231,7 +231,8 @@ pub(crate) fn first_stage(
     presented: Presented,
 ) -> Result<Stage, OutOfMemory>
     ensures { IfOk result (λ stage. stage
-        ≡ option_map_or (λ space. presented_stage request.now shards credentials.now space store.now presented) (option_copied space.entry) Stage.Open) }
+        ≡ option_map_or (λ space. presented_stage request.now shards credentials.now space store.now presented)
+        (option_copied space.entry) Stage.Open) }
 {
     match space {
         None => Ok(Stage::Open),

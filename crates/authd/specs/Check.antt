@@ -15,8 +15,10 @@ counts_line entries spaces = codes "store " ++ decimal entries ++ codes " spaces
 -- Without a site nothing is printed.
 abbrev pub PrintsCounts : Result Site Failure → LinkState → LinkState → Ending → Type 0
 PrintsCounts (Err other) link link' ending = (ending ≡ Err other) × (link' ≡ link)
-PrintsCounts (Ok site) link link' ending = (link'.left ≡ link.left) × Prints (counts_line (length site.store) (length site.spaces)) link.written link'.written ending
+PrintsCounts (Ok site) link link' ending =
+    (link'.left ≡ link.left) × Prints (counts_line (length site.store) (length site.spaces)) link.written link'.written ending
 
 -- The files are read as for a site without files of its own, the store first.
 abbrev pub Checks : {F : Type 0} → (F → FilesState) → List ℕ → List ℕ → F → F → LinkState → LinkState → Ending → Type 0
-Checks at store spaces files files' link link' ending = (site : Result Site Failure) × LoadsSite at files files' store spaces [] site × PrintsCounts site link link' ending
+Checks at store spaces files files' link link' ending =
+    (site : Result Site Failure) × LoadsSite at files files' store spaces [] site × PrintsCounts site link link' ending

@@ -8,10 +8,19 @@ use Rattle.authd.specs.declared.crew.Proxying.{Proxying}
 use Rattle.authd.specs.declared.crew.Crew.{Crew}
 
 abbrev pub listening_of : Listening → words.Listening
-listening_of l = record { store = l.place.store.now; spaces = l.place.spaces.now; root = l.place.root.now; address = l.address.now; workers = l.workers; connections = l.connections }
+listening_of l =
+    record {
+      store = l.place.store.now;
+      spaces = l.place.spaces.now;
+      root = l.place.root.now;
+      address = l.address.now;
+      workers = l.workers;
+      connections = l.connections;
+    }
 
 abbrev pub proxying_of : Proxying → words.Proxying
-proxying_of p = record { store = p.store.now; spaces = p.spaces.now; address = p.address.now; workers = p.workers; connections = p.connections }
+proxying_of p =
+    record { store = p.store.now; spaces = p.spaces.now; address = p.address.now; workers = p.workers; connections = p.connections }
 
 abbrev pub meaning : Command → words.Command
 meaning Usage = words.Usage

@@ -52,7 +52,8 @@ line_of failure.OutOfMemory = []
 
 -- The text was written whole, or a front of it up to a write that failed.
 abbrev pub Tells : Option (List ℕ) → Option (List ℕ) → ℕ → ℕ → List ℕ → Type 0
-Tells written written' faults faults' text = Appends written written' text ⊎ ((n : ℕ) × Appends written written' (take n text) × Rose faults faults')
+Tells written written' faults faults' text =
+    Appends written written' text ⊎ ((n : ℕ) × Appends written written' (take n text) × Rose faults faults')
 
 -- The status is the failure's, and its line was told; or memory failed while it was told.
 abbrev pub Reports : Ending → Option (List ℕ) → Option (List ℕ) → ℕ → ℕ → ℕ → Type 0
@@ -87,8 +88,10 @@ FailureSays v before now failure.OutOfMemory = ⊤
 
 -- what the failure of a command that is given the link and the files alone says of them
 abbrev pub LinkFilesSay : {L F : Type 0} → (L → Option (List ℕ)) → (L → ℕ) → (L → ℕ) → (F → FilesState) → L → L → F → F → Failure → Type 0
-LinkFilesSay written reads writes files link link' f f' failure.Usage = (written link' ≡ written link) × ((files f').contents ≡ (files f).contents)
-LinkFilesSay written reads writes files link link' f f' (failure.Refused refusal) = (written link' ≡ written link) × ((files f').contents ≡ (files f).contents)
+LinkFilesSay written reads writes files link link' f f' failure.Usage =
+    (written link' ≡ written link) × ((files f').contents ≡ (files f).contents)
+LinkFilesSay written reads writes files link link' f f' (failure.Refused refusal) =
+    (written link' ≡ written link) × ((files f').contents ≡ (files f).contents)
 LinkFilesSay written reads writes files link link' f f' (failure.Fault fault.Read) = Rose (reads link) (reads link')
 LinkFilesSay written reads writes files link link' f f' (failure.Fault fault.Write) = Rose (writes link) (writes link')
 LinkFilesSay written reads writes files link link' f f' (failure.Fault fault.File) = Rose ((files f).faults) ((files f').faults)
@@ -98,9 +101,12 @@ LinkFilesSay written reads writes files link link' f f' failure.Worn = ⊥
 LinkFilesSay written reads writes files link link' f f' failure.OutOfMemory = ⊤
 
 -- the same of one that is given the source of random words too
-abbrev pub LinkFilesWordsSay : {L F W : Type 0} → (L → Option (List ℕ)) → (L → ℕ) → (L → ℕ) → (F → FilesState) → (W → ℕ) → L → L → F → F → W → W → Failure → Type 0
-LinkFilesWordsSay written reads writes files draws link link' f f' random random' (failure.Fault fault.Draw) = Rose (draws random) (draws random')
-LinkFilesWordsSay written reads writes files draws link link' f f' random random' failure = LinkFilesSay written reads writes files link link' f f' failure
+abbrev pub LinkFilesWordsSay : {L F W : Type 0} → (L → Option (List ℕ)) → (L → ℕ) → (L → ℕ) → (F → FilesState) → (W → ℕ) → L
+    → L → F → F → W → W → Failure → Type 0
+LinkFilesWordsSay written reads writes files draws link link' f f' random random' (failure.Fault fault.Draw) =
+    Rose (draws random) (draws random')
+LinkFilesWordsSay written reads writes files draws link link' f f' random random' failure =
+    LinkFilesSay written reads writes files link link' f f' failure
 
 -- the statuses of refusals
 abbrev pub IsRefusal : ℕ → Type 0

@@ -23,7 +23,9 @@ imported_line count = codes "imported " ++ decimal count ++ 10 ∷ []
 
 -- what a text of htdigest makes of a store, or why it is refused
 abbrev pub TakesPairs : List ℕ → List Entry → Result Imported Failure → Type 0
-TakesPairs text entries (Ok done) = (pairs : List Entry) × ArePairs (lines text) pairs × (done.count ≡ length (imported pairs)) × (done.store ≡ put_all (imported pairs) entries)
+TakesPairs text entries (Ok done) =
+    (pairs : List Entry) × ArePairs (lines text) pairs × (done.count ≡ length (imported pairs))
+    × (done.store ≡ put_all (imported pairs) entries)
 TakesPairs text entries (Err (failure.Refused (refusal.HtdigestLine line))) = (why : LineFault) × FirstPairFault text (BadLine line why)
 TakesPairs text entries (Err failure.OutOfMemory) = ⊤
 TakesPairs text entries (Err other) = ⊥
@@ -46,10 +48,13 @@ LoadsImport {F} at before now store htdigest result =
     × (entries : Result (List Entry) Failure) × IsKept answer entries × LoadsPairs at middle now htdigest entries result
 
 -- Without what is to be saved no file changes, and nothing is printed.
-abbrev pub SavesImport : {F : Type 0} → (F → FilesState) → F → F → List ℕ → Result Imported Failure → LinkState → LinkState → Ending → Type 0
+abbrev pub SavesImport : {F : Type 0} → (F → FilesState) → F → F → List ℕ → Result Imported Failure → LinkState → LinkState
+    → Ending → Type 0
 SavesImport at before now store (Err other) link link' ending = (now ≡ before) × (link' ≡ link) × (ending ≡ Err other)
-SavesImport at before now store (Ok done) link link' ending = Saves (at before) (at now) store done.store (imported_line done.count) link link' ending
+SavesImport at before now store (Ok done) link link' ending =
+    Saves (at before) (at now) store done.store (imported_line done.count) link link' ending
 
 abbrev pub Imports : {F : Type 0} → (F → FilesState) → List ℕ → List ℕ → F → F → LinkState → LinkState → Ending → Type 0
 Imports {F} at store htdigest files files' link link' ending =
-    (middle : F) × (result : Result Imported Failure) × LoadsImport at files middle store htdigest result × SavesImport at middle files' store result link link' ending
+    (middle : F) × (result : Result Imported Failure) × LoadsImport at files middle store htdigest result
+    × SavesImport at middle files' store result link link' ending

@@ -30,4 +30,5 @@ IsPiece input input' got left (Err failure.OutOfMemory) = ⊤
 IsPiece input input' got left (Err other) = ⊥
 
 abbrev pub ReadsPiece : Option (List ℕ) → Option (List ℕ) → List ℕ → List ℕ → Result Bool Failure → Type 0
-ReadsPiece left left' input input' result = (got : List ℕ) × Consumes left left' got × (length input + length got ≤ 16385) × IsPiece input input' got left' result
+ReadsPiece left left' input input' result =
+    (got : List ℕ) × Consumes left left' got × (length input + length got ≤ 16385) × IsPiece input input' got left' result

@@ -77,7 +77,8 @@ diag_state written faults diag = record { written = written diag; faults = fault
 -- ---- the start
 
 -- The first worker's files are read for the site, and nothing else of the workers changes.
-abbrev pub Starts : {A F C W : Type 0} → (F → FilesState) → List ℕ → List ℕ → List ℕ → List (Worker A F C W) → List (Worker A F C W) → Result Site Failure → Type 0
+abbrev pub Starts : {A F C W : Type 0} → (F → FilesState) → List ℕ → List ℕ → List ℕ → List (Worker A F C W)
+    → List (Worker A F C W) → Result Site Failure → Type 0
 Starts {A} {F} {C} {W} at store spaces root before now site =
     (first : Worker A F C W) × (rest : List (Worker A F C W)) × (files : F)
     × (before ≡ first ∷ rest) × (now ≡ record first { files = files } ∷ rest)
@@ -97,22 +98,27 @@ ServesAt {A} {F} {C} {W} {T} sight site connections before now k end = (w : Work
 
 -- Each worker has served, and all have ended as the worst of them. Or there was no memory for the lists that come back, and
 -- no connection was taken.
-abbrev pub ServesSite : {A F C W T : Type 0} → Sight A F C W T → Site → ℕ → Crew A F C W T → Crew A F C W T → Result Finish OutOfMemory → Type 0
-ServesSite sight site connections before now (Ok whole) = EndsAsWorst (length before.workers) whole (ServesAt sight site connections before now)
+abbrev pub ServesSite : {A F C W T : Type 0} → Sight A F C W T → Site → ℕ → Crew A F C W T → Crew A F C W T
+    → Result Finish OutOfMemory → Type 0
+ServesSite sight site connections before now (Ok whole) =
+    EndsAsWorst (length before.workers) whole (ServesAt sight site connections before now)
 ServesSite sight site connections before now (Err no_memory) = now ≡ before
 
 -- ---- all of it
 
 -- Without a site no connection is taken. With one, diag is told nothing.
-abbrev pub ServesLoaded : {A F C W T : Type 0} → Sight A F C W T → Result Site Failure → ℕ → Crew A F C W T → Crew A F C W T → DiagState → DiagState → ℕ → Type 0
+abbrev pub ServesLoaded : {A F C W T : Type 0} → Sight A F C W T → Result Site Failure → ℕ → Crew A F C W T → Crew A F C W T
+    → DiagState → DiagState → ℕ → Type 0
 ServesLoaded sight (Err why) connections before now diag diag' status = Refuses why before now diag diag' status
 ServesLoaded sight (Ok site) connections before now diag diag' status =
     (end : Result Finish OutOfMemory) × ServesSite sight site connections before now end × (status ≡ status_for end) × (diag' ≡ diag)
 
-abbrev pub Listens : {A F C W T : Type 0} → Sight A F C W T → Option Listening → Crew A F C W T → Crew A F C W T → DiagState → DiagState → ℕ → Type 0
+abbrev pub Listens : {A F C W T : Type 0} → Sight A F C W T → Option Listening → Crew A F C W T → Crew A F C W T → DiagState
+    → DiagState → ℕ → Type 0
 Listens sight None before now diag diag' status = Refuses failure.Usage before now diag diag' status
 Listens {A} {F} {C} {W} {T} sight (Some l) before now diag diag' status =
-    (workers : List (Worker A F C W)) × (site : Result Site Failure) × Starts (sight.files) l.store l.spaces l.root before.workers workers site
+    (workers : List (Worker A F C W)) × (site : Result Site Failure)
+    × Starts (sight.files) l.store l.spaces l.root before.workers workers site
     × ServesLoaded sight site l.connections (crew workers before.passes) now diag diag' status
 
 -- ---- causes

@@ -85,7 +85,8 @@ IsSite entries (Ok list) root (Ok site) = (site.store ≡ entries) × (site.spac
 IsSite entries (Ok list) root (Err other) = other ≡ failure.OutOfMemory
 
 -- Where the store was read, the spaces are.
-abbrev pub LoadsSpaces : {F : Type 0} → (F → FilesState) → F → F → List ℕ → List ℕ → Result (List Entry) Failure → Result Site Failure → Type 0
+abbrev pub LoadsSpaces : {F : Type 0} → (F → FilesState) → F → F → List ℕ → List ℕ → Result (List Entry) Failure
+    → Result Site Failure → Type 0
 LoadsSpaces at before now name root (Err other) result = (now ≡ before) × (result ≡ Err other)
 LoadsSpaces at before now name root (Ok entries) result =
     (answer : FileAnswer) × ReadsFile (at before) (at now) name answer
@@ -95,4 +96,5 @@ LoadsSpaces at before now name root (Ok entries) result =
 abbrev pub LoadsSite : {F : Type 0} → (F → FilesState) → F → F → List ℕ → List ℕ → List ℕ → Result Site Failure → Type 0
 LoadsSite {F} at before now store_name spaces_name root result =
     (middle : F) × (answer : FileAnswer) × ReadsFile (at before) (at middle) store_name answer
-    × (entries : Result (List Entry) Failure) × IsStore (text_in refusal.StoreAbsent answer) entries × LoadsSpaces at middle now spaces_name root entries result
+    × (entries : Result (List Entry) Failure) × IsStore (text_in refusal.StoreAbsent answer) entries
+    × LoadsSpaces at middle now spaces_name root entries result

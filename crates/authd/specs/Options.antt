@@ -34,7 +34,8 @@ with_rounds store name realm kind (Some rounds) = Passwd store name realm kind r
 -- whether the words set a secret that is made by a count
 abbrev pub takes_rounds : List ℕ → List ℕ → List ℕ → List ℕ → List ℕ → Bool
 takes_rounds command store name realm kind =
-    list_all is_word (command ∷ store ∷ name ∷ realm ∷ kind ∷ []) && (bytes_eq command (codes "passwd") && bytes_eq kind (codes "scram-sha-256"))
+    list_all is_word (command ∷ store ∷ name ∷ realm ∷ kind ∷ [])
+    && (bytes_eq command (codes "passwd") && bytes_eq kind (codes "scram-sha-256"))
 
 -- No other words have an option, but those of `drill`.
 abbrev pub with_option : List ℕ → List (List ℕ) → Command

@@ -24,9 +24,18 @@ pub record Views (L F C W : Type 0) : Type 0 where
   pub drawn : W → Option (List (List ℕ))
   pub word_faults : W → ℕ
 
-abbrev pub views : {L F C W : Type 0} → (L → LinkState) → (L → ℕ) → (L → ℕ) → (F → FilesState) → (C → Option (List ℕ)) → (W → Option (List (List ℕ))) → (W → ℕ) → Views L F C W
+abbrev pub views : {L F C W : Type 0} → (L → LinkState) → (L → ℕ) → (L → ℕ) → (F → FilesState) → (C → Option (List ℕ))
+    → (W → Option (List (List ℕ))) → (W → ℕ) → Views L F C W
 views link read_faults write_faults files shown drawn word_faults =
-    record { link = link; read_faults = read_faults; write_faults = write_faults; files = files; shown = shown; drawn = drawn; word_faults = word_faults }
+    record {
+      link = link;
+      read_faults = read_faults;
+      write_faults = write_faults;
+      files = files;
+      shown = shown;
+      drawn = drawn;
+      word_faults = word_faults;
+    }
 
 -- a count of faults has risen
 abbrev pub SomeRose : {L F C W : Type 0} → Views L F C W → Objects L F C W → Objects L F C W → Type 0
@@ -36,4 +45,5 @@ SomeRose v before now =
 
 -- nothing was written, and the files hold what they held
 abbrev pub IsUntouched : {L F C W : Type 0} → Views L F C W → Objects L F C W → Objects L F C W → Type 0
-IsUntouched v before now = ((v.link now.link).written ≡ (v.link before.link).written) × ((v.files now.files).contents ≡ (v.files before.files).contents)
+IsUntouched v before now =
+    ((v.link now.link).written ≡ (v.link before.link).written) × ((v.files now.files).contents ≡ (v.files before.files).contents)

@@ -27,9 +27,11 @@ outside_at v o table = outside_of (v.files o.files) (table_state v.drawn v.word_
 
 -- The site is served, with this table of its own: what was read, written, shown, drawn, called and done with files is its session,
 -- and each request in it that was answered was admitted exactly where it was to be.
-abbrev pub ServesBy : {L F C W : Type 0} → Views L F C W → Site → Objects L F C W → Objects L F C W → Journal → Journal → Result Served ServeError → Type 0
+abbrev pub ServesBy : {L F C W : Type 0} → Views L F C W → Site → Objects L F C W → Objects L F C W → Journal → Journal
+    → Result Served ServeError → Type 0
 ServesBy v site before now table table' served =
-    ServesConnection (outside_at v before table) (outside_at v now table') (v.link before.link) (v.link now.link) (v.shown before.clock) (v.shown now.clock) (server site 1) served
+    ServesConnection (outside_at v before table) (outside_at v now table') (v.link before.link) (v.link now.link)
+    (v.shown before.clock) (v.shown now.clock) (server site 1) served
 
 abbrev pub ending_of : Result Served ServeError → Ending
 ending_of (Ok served) = Ok tt
@@ -39,7 +41,8 @@ ending_of (Err error) = Err (serve_failure error)
 abbrev pub ServesSite : {L F C W : Type 0} → Views L F C W → Site → Objects L F C W → Objects L F C W → Ending → Type 0
 ServesSite v site before now ending =
     ((ending ≡ Err failure.OutOfMemory) × (now ≡ before))
-    ⊎ ((table : Journal) × (table' : Journal) × (table ≡ fresh_table) × (served : Result Served ServeError) × ServesBy v site before now table table' served × ((calls : ℕ) → served ≢ Err (error.Worn calls)) × (ending ≡ ending_of served))
+    ⊎ ((table : Journal) × (table' : Journal) × (table ≡ fresh_table) × (served : Result Served ServeError)
+    × ServesBy v site before now table table' served × ((calls : ℕ) → served ≢ Err (error.Worn calls)) × (ending ≡ ending_of served))
 
 -- Without a site nothing is served.
 abbrev pub ServesLoaded : {L F C W : Type 0} → Views L F C W → Result Site Failure → Objects L F C W → Objects L F C W → Ending → Type 0

@@ -57,11 +57,12 @@ abbrev pub sight_of : {A N F C W T : Type 0} → (A → Option (List (List ℕ))
     → (N → Option Dialled) → (N → Option (List (List ℕ))) → (N → Option Handed) → (N → ℕ) → (N → ℕ)
     → (F → Option Contents) → (F → Option (List (List ℕ × Ending))) → (F → ℕ)
     → (C → Option (List ℕ)) → (W → Option (List (List ℕ))) → (W → ℕ) → (T → Seat) → Sight A N F C W T
-sight_of coming handed faults dialled coming_up handed_up dial_faults link_faults contents asked file_faults shown drawn word_faults seat = record {
-  files = files_state contents asked file_faults;
-  service = proxy_service dialled coming_up handed_up dial_faults link_faults shown drawn word_faults seat;
-  state = state_of coming handed faults;
-}
+sight_of coming handed faults dialled coming_up handed_up dial_faults link_faults contents asked file_faults shown drawn
+    word_faults seat = record {
+      files = files_state contents asked file_faults;
+      service = proxy_service dialled coming_up handed_up dial_faults link_faults shown drawn word_faults seat;
+      state = state_of coming handed faults;
+    }
 
 -- ---- the start
 
@@ -72,7 +73,8 @@ IsFit (Ok site) (Ok fit) = fit.site ≡ site
 IsFit (Ok site) (Err why) = (proxy_ready site.spaces ≡ false) × (why ≡ failure.Refused refusal.NotForProxy)
 
 -- The first worker's files are read for the site, and nothing else of the workers changes.
-abbrev pub Starts : {A N F C W : Type 0} → (F → FilesState) → List ℕ → List ℕ → List (ProxyWorker A N F C W) → List (ProxyWorker A N F C W) → Result ProxySite Failure → Type 0
+abbrev pub Starts : {A N F C W : Type 0} → (F → FilesState) → List ℕ → List ℕ → List (ProxyWorker A N F C W)
+    → List (ProxyWorker A N F C W) → Result ProxySite Failure → Type 0
 Starts {A} {N} {F} {C} {W} at store spaces before now fit =
     (first : ProxyWorker A N F C W) × (rest : List (ProxyWorker A N F C W)) × (files : F) × (site : Result Site Failure)
     × (before ≡ first ∷ rest) × (now ≡ record first { files = files } ∷ rest)
@@ -92,22 +94,27 @@ ServesAt {A} {N} {F} {C} {W} {T} sight site connections before now k end = (w : 
 
 -- Each worker has served, and all have ended as the worst of them. Or there was no memory for the lists that come back, and
 -- no connection was taken.
-abbrev pub ServesSite : {A N F C W T : Type 0} → Sight A N F C W T → Site → ℕ → Crew A N F C W T → Crew A N F C W T → Result Finish OutOfMemory → Type 0
-ServesSite sight site connections before now (Ok whole) = EndsAsWorst (length before.workers) whole (ServesAt sight site connections before now)
+abbrev pub ServesSite : {A N F C W T : Type 0} → Sight A N F C W T → Site → ℕ → Crew A N F C W T → Crew A N F C W T
+    → Result Finish OutOfMemory → Type 0
+ServesSite sight site connections before now (Ok whole) =
+    EndsAsWorst (length before.workers) whole (ServesAt sight site connections before now)
 ServesSite sight site connections before now (Err no_memory) = now ≡ before
 
 -- ---- all of it
 
 -- Without a site no connection is taken. With one, diag is told nothing.
-abbrev pub ServesLoaded : {A N F C W T : Type 0} → Sight A N F C W T → Result ProxySite Failure → ℕ → Crew A N F C W T → Crew A N F C W T → DiagState → DiagState → ℕ → Type 0
+abbrev pub ServesLoaded : {A N F C W T : Type 0} → Sight A N F C W T → Result ProxySite Failure → ℕ → Crew A N F C W T
+    → Crew A N F C W T → DiagState → DiagState → ℕ → Type 0
 ServesLoaded sight (Err why) connections before now diag diag' status = Refuses why before now diag diag' status
 ServesLoaded sight (Ok fit) connections before now diag diag' status =
     (end : Result Finish OutOfMemory) × ServesSite sight fit.site connections before now end × (status ≡ status_for end) × (diag' ≡ diag)
 
-abbrev pub Proxies : {A N F C W T : Type 0} → Sight A N F C W T → Option Proxying → Crew A N F C W T → Crew A N F C W T → DiagState → DiagState → ℕ → Type 0
+abbrev pub Proxies : {A N F C W T : Type 0} → Sight A N F C W T → Option Proxying → Crew A N F C W T → Crew A N F C W T
+    → DiagState → DiagState → ℕ → Type 0
 Proxies sight None before now diag diag' status = Refuses failure.Usage before now diag diag' status
 Proxies {A} {N} {F} {C} {W} {T} sight (Some p) before now diag diag' status =
-    (workers : List (ProxyWorker A N F C W)) × (fit : Result ProxySite Failure) × Starts (sight.files) p.store p.spaces before.workers workers fit
+    (workers : List (ProxyWorker A N F C W)) × (fit : Result ProxySite Failure)
+    × Starts (sight.files) p.store p.spaces before.workers workers fit
     × ServesLoaded sight fit p.connections (crew workers before.passes) now diag diag' status
 
 -- ---- causes

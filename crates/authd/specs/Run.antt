@@ -21,9 +21,20 @@ Does v (Listen listening) before now ending = (ending ≡ Err failure.Usage) × 
 Does v (Proxy proxying) before now ending = (ending ≡ Err failure.Usage) × (now ≡ before)
 Does v Show before now ending = Shows (v.link before.link) (v.link now.link) ending × (now ≡ record before { link = now.link })
 Does v (Pipe store spaces root) before now ending = Pipes v store spaces root before now ending
-Does v (Check store spaces) before now ending = Checks (v.files) store spaces before.files now.files (v.link before.link) (v.link now.link) ending × (now ≡ record before { link = now.link; files = now.files })
-Does v (Import store htdigest) before now ending = Imports (v.files) store htdigest before.files now.files (v.link before.link) (v.link now.link) ending × (now ≡ record before { link = now.link; files = now.files })
-Does v (Passwd store name realm kind rounds) before now ending = Passwds (v.files) (v.drawn) (v.word_faults) store name realm kind rounds before.files now.files before.random now.random (v.link before.link) (v.link now.link) ending × (now ≡ record before { link = now.link; files = now.files; random = now.random })
-Does v (Switch store name realm on) before now ending = Switches (v.files) store name realm on before.files now.files (v.link before.link) (v.link now.link) ending × (now ≡ record before { link = now.link; files = now.files })
-Does v (Migrate store) before now ending = Migrates (v.files) store before.files now.files (v.link before.link) (v.link now.link) ending × (now ≡ record before { link = now.link; files = now.files })
-Does v (Drill seed steps) before now ending = Drills seed steps (v.link before.link) (v.link now.link) ending × (now ≡ record before { link = now.link })
+Does v (Check store spaces) before now ending =
+    Checks (v.files) store spaces before.files now.files (v.link before.link) (v.link now.link) ending
+    × (now ≡ record before { link = now.link; files = now.files })
+Does v (Import store htdigest) before now ending =
+    Imports (v.files) store htdigest before.files now.files (v.link before.link) (v.link now.link) ending
+    × (now ≡ record before { link = now.link; files = now.files })
+Does v (Passwd store name realm kind rounds) before now ending =
+    Passwds (v.files) (v.drawn) (v.word_faults) store name realm kind rounds before.files now.files before.random now.random
+    (v.link before.link) (v.link now.link) ending × (now ≡ record before { link = now.link; files = now.files; random = now.random })
+Does v (Switch store name realm on) before now ending =
+    Switches (v.files) store name realm on before.files now.files (v.link before.link) (v.link now.link) ending
+    × (now ≡ record before { link = now.link; files = now.files })
+Does v (Migrate store) before now ending =
+    Migrates (v.files) store before.files now.files (v.link before.link) (v.link now.link) ending
+    × (now ≡ record before { link = now.link; files = now.files })
+Does v (Drill seed steps) before now ending =
+    Drills seed steps (v.link before.link) (v.link now.link) ending × (now ≡ record before { link = now.link })

@@ -31,4 +31,5 @@ PrintsSaved (Ok done) line link link' ending = (link'.left ≡ link.left) × Pri
 abbrev pub Saves : FilesState → FilesState → List ℕ → List Entry → List ℕ → LinkState → LinkState → Ending → Type 0
 Saves before now name entries line link link' ending =
     ((ending ≡ Err failure.OutOfMemory) × (now ≡ before) × (link' ≡ link))
-    ⊎ ((answer : Replaced) × ReplacesFile before now name (store_text entries) answer × PrintsSaved (ending_of answer) line link link' ending)
+    ⊎ ((answer : Replaced) × ReplacesFile before now name (store_text entries) answer
+    × PrintsSaved (ending_of answer) line link link' ending)

@@ -28,7 +28,8 @@ item_lines items = flat_map (λ item. item_text Challenge item ++ 10 ∷ []) ite
 abbrev pub IsShown : List ℕ → Result (List ℕ) Failure → Type 0
 IsShown input (Ok text) = (items : List Item) × AnswersChallenges (field_text input) (Ok items) × (text ≡ item_lines items)
 IsShown input (Err (failure.Refused (refusal.NotGrammar at))) = AnswersChallenges (field_text input) (Err (Grammar.NotGrammar at))
-IsShown input (Err (failure.Refused (refusal.Twice at))) = (name : List ℕ) × AnswersChallenges (field_text input) (Err (Grammar.Twice at name))
+IsShown input (Err (failure.Refused (refusal.Twice at))) =
+    (name : List ℕ) × AnswersChallenges (field_text input) (Err (Grammar.Twice at name))
 IsShown input (Err failure.OutOfMemory) = ⊤
 IsShown input (Err other) = ⊥
 
@@ -38,14 +39,19 @@ WritesFront input written written' = (text : List ℕ) × IsShown input (Ok text
 
 -- What an ending says of the input and of what was written. Nothing is written of an input that is refused.
 abbrev pub EndsShow : List ℕ → Option (List ℕ) → Option (List ℕ) → Option (List ℕ) → Ending → Type 0
-EndsShow input left written written' (Ok done) = IsWhole input left × (text : List ℕ) × IsShown input (Ok text) × Appends written written' text
+EndsShow input left written written' (Ok done) =
+    IsWhole input left × (text : List ℕ) × IsShown input (Ok text) × Appends written written' text
 EndsShow input left written written' (Err (failure.Refused refusal.TooLong)) = (length input ≡ 16385) × (written' ≡ written)
-EndsShow input left written written' (Err (failure.Refused refusal)) = IsWhole input left × IsShown input (Err (failure.Refused refusal)) × (written' ≡ written)
+EndsShow input left written written' (Err (failure.Refused refusal)) =
+    IsWhole input left × IsShown input (Err (failure.Refused refusal)) × (written' ≡ written)
 EndsShow input left written written' (Err (failure.Fault fault.Read)) = written' ≡ written
 EndsShow input left written written' (Err (failure.Fault fault.Write)) = IsWhole input left × WritesFront input written written'
-EndsShow input left written written' (Err failure.OutOfMemory) = (written' ≡ written) ⊎ (IsWhole input left × WritesFront input written written')
+EndsShow input left written written' (Err failure.OutOfMemory) =
+    (written' ≡ written) ⊎ (IsWhole input left × WritesFront input written written')
 EndsShow input left written written' (Err other) = ⊥
 
 -- An input of at most 16,384 bytes is read to its end, and no more than one byte of a longer one.
 abbrev pub Shows : LinkState → LinkState → Ending → Type 0
-Shows before now ending = (input : List ℕ) × Consumes before.left now.left input × (length input ≤ 16385) × EndsShow input now.left before.written now.written ending
+Shows before now ending =
+    (input : List ℕ) × Consumes before.left now.left input × (length input ≤ 16385)
+    × EndsShow input now.left before.written now.written ending

@@ -23,11 +23,14 @@ SavesSome at before now store count entries line link link' ending =
     ⊎ ((count ≢ 0) × Saves (at before) (at now) store entries line link link' ending)
 
 -- Without a store nothing is printed.
-abbrev pub SavesSwitched : {F : Type 0} → (F → FilesState) → F → F → List ℕ → List ℕ → List ℕ → Bool → Result (List Entry) Failure → LinkState → LinkState → Ending → Type 0
+abbrev pub SavesSwitched : {F : Type 0} → (F → FilesState) → F → F → List ℕ → List ℕ → List ℕ → Bool
+    → Result (List Entry) Failure → LinkState → LinkState → Ending → Type 0
 SavesSwitched at before now store name realm on (Err other) link link' ending = (now ≡ before) × (link' ≡ link) × (ending ≡ Err other)
 SavesSwitched at before now store name realm on (Ok entries) link link' ending =
-    SavesSome at before now store (count_by (is_of name realm) entries) (with_flag name realm on entries) (switched_line on (count_by (is_of name realm) entries)) link link' ending
+    SavesSome at before now store (count_by (is_of name realm) entries) (with_flag name realm on entries)
+    (switched_line on (count_by (is_of name realm) entries)) link link' ending
 
 abbrev pub Switches : {F : Type 0} → (F → FilesState) → List ℕ → List ℕ → List ℕ → Bool → F → F → LinkState → LinkState → Ending → Type 0
 Switches {F} at store name realm on files files' link link' ending =
-    (middle : F) × (entries : Result (List Entry) Failure) × LoadsStore at files middle store entries × SavesSwitched at middle files' store name realm on entries link link' ending
+    (middle : F) × (entries : Result (List Entry) Failure) × LoadsStore at files middle store entries
+    × SavesSwitched at middle files' store name realm on entries link link' ending

@@ -86,7 +86,8 @@ listen_by store spaces root address _ _ = Usage
 
 abbrev pub listen_at : List ℕ → List ℕ → List ℕ → List ℕ → List ℕ → List ℕ → Command
 listen_at store spaces root address workers connections =
-    if is_address address then listen_by store spaces root address (number_in 1 MOST_WORKERS workers) (number_in 1 MOST_CONNECTIONS connections) else Usage
+    if is_address address then listen_by store spaces root address (number_in 1 MOST_WORKERS workers)
+    (number_in 1 MOST_CONNECTIONS connections) else Usage
 
 abbrev pub listen_with : List (List ℕ) → Command
 listen_with (store ∷ spaces ∷ root ∷ address ∷ workers ∷ connections ∷ []) = listen_at store spaces root address workers connections
@@ -100,7 +101,8 @@ proxy_by store spaces address _ _ = Usage
 
 abbrev pub proxy_at : List ℕ → List ℕ → List ℕ → List ℕ → List ℕ → Command
 proxy_at store spaces address workers connections =
-    if is_address address then proxy_by store spaces address (number_in 1 MOST_WORKERS workers) (number_in 1 MOST_CONNECTIONS connections) else Usage
+    if is_address address then proxy_by store spaces address (number_in 1 MOST_WORKERS workers)
+    (number_in 1 MOST_CONNECTIONS connections) else Usage
 
 abbrev pub proxy_with : List (List ℕ) → Command
 proxy_with (store ∷ spaces ∷ address ∷ workers ∷ connections ∷ []) = proxy_at store spaces address workers connections

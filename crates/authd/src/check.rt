@@ -24,7 +24,9 @@ pub(crate) fn check<L: Link, F: Files>(
 ) -> Result<(), Failure>
     ensures checks { let at = link_of L.left L.given L.written L.reads in
         Checks (files_state F.contents F.asked F.faults) store.now spaces.now files.old files.new (at link.old) (at link.new) result }
-    ensures says { IfErr result (LinkFilesSay L.written L.read_faults L.write_faults (files_state F.contents F.asked F.faults) link.old link.new files.old files.new) }
+    ensures says { IfErr result
+        (LinkFilesSay L.written L.read_faults L.write_faults
+        (files_state F.contents F.asked F.faults) link.old link.new files.old files.new) }
 {
     let place = Place {
         store,

@@ -195,7 +195,8 @@ fn listen_at<'w>(
     workers: &[u8],
     connections: &[u8],
 ) -> Command<'w>
-    ensures { meaning result ≡ listen_at place.entry.store.now place.entry.spaces.now place.entry.root.now address.now workers.now connections.now }
+    ensures { meaning result
+        ≡ listen_at place.entry.store.now place.entry.spaces.now place.entry.root.now address.now workers.now connections.now }
 {
     if !is_address(address) {
         return Command::Usage;

@@ -32,7 +32,9 @@ pub(crate) fn import<L: Link, F: Files>(
 ) -> Result<(), Failure>
     ensures imports { let at = link_of L.left L.given L.written L.reads in
         Imports (files_state F.contents F.asked F.faults) store.now htdigest.now files.old files.new (at link.old) (at link.new) result }
-    ensures says { IfErr result (LinkFilesSay L.written L.read_faults L.write_faults (files_state F.contents F.asked F.faults) link.old link.new files.old files.new) }
+    ensures says { IfErr result
+        (LinkFilesSay L.written L.read_faults L.write_faults
+        (files_state F.contents F.asked F.faults) link.old link.new files.old files.new) }
 {
     let imported = load_imported(alloc, files, store, htdigest)?;
     save_imported(alloc, store, &imported, link, files)
@@ -81,8 +83,11 @@ fn save_imported<L: Link, F: Files>(
 ) -> Result<(), Failure>
     ensures saves { let at = files_state F.contents F.asked F.faults in
         let link_at = link_of L.left L.given L.written L.reads in
-        Saves (at files.old) (at files.new) name.now imported.now.store (imported_line imported.now.count) (link_at link.old) (link_at link.new) result }
-    ensures says { IfErr result (LinkFilesSay L.written L.read_faults L.write_faults (files_state F.contents F.asked F.faults) link.old link.new files.old files.new) }
+        Saves (at files.old) (at files.new) name.now imported.now.store (imported_line imported.now.count)
+        (link_at link.old) (link_at link.new) result }
+    ensures says { IfErr result
+        (LinkFilesSay L.written L.read_faults L.write_faults
+        (files_state F.contents F.asked F.faults) link.old link.new files.old files.new) }
 {
     let line = imported_line(alloc, imported.count)?;
     save(alloc, name, &imported.store, line.bytes(), link, files)

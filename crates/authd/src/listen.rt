@@ -59,7 +59,9 @@ fn start<A, F: Files, C, W>(
     place: &Place<'_>,
 ) -> Result<Site, Failure>
     requires { 1 ≤ vec_len workers.old }
-    ensures starts { Starts (files_state F.contents F.asked F.faults) place.now.store.now place.now.spaces.now place.now.root.now workers.old.items workers.new.items result }
+    ensures starts { Starts
+        (files_state F.contents F.asked F.faults) place.now.store.now place.now.spaces.now place.now.root.now
+        workers.old.items workers.new.items result }
     ensures fault { IfErr result (λ why. status_of why ≡ 4 → FileFaultRose F.faults workers.old.items workers.new.items) }
 {
     site_of(alloc, &mut workers[0].files, place)
@@ -86,7 +88,9 @@ where
     requires as_many { vec_len workers ≡ vec_len passes }
     requires of_table { All (λ pass. IsOf table.now pass) passes.items }
     ensures serves { let sight = sight_of A.coming A.handed A.faults F.contents F.asked F.faults C.shown W.drawn W.faults seat_of in
-        (end : Result Finish OutOfMemory) × ServesSite sight site.now connections (crew workers.items passes.items) (crew result.1.items result.2.items) end × (result.0 ≡ status_for end) }
+        (end : Result Finish OutOfMemory)
+        × ServesSite sight site.now connections (crew workers.items passes.items)
+        (crew result.1.items result.2.items) end × (result.0 ≡ status_for end) }
     ensures accept_fault { result.0 ≡ 4 → AcceptFaultRose A.faults workers.items result.1.items }
     ensures worn { result.0 ≡ 6 → SomeWorn seat_of passes.items result.2.items }
     ensures as_many_workers { vec_len result.1 ≡ vec_len workers }
@@ -121,7 +125,8 @@ where
     requires of_table { All (λ pass. IsOf table.now pass) passes.items }
     ensures listens { let sight = sight_of A.coming A.handed A.faults F.contents F.asked F.faults C.shown W.drawn W.faults seat_of in
         let diag_at = diag_state D.written D.faults in
-        Listens sight (Some (listening_of listening.now)) (crew workers.items passes.items) (crew result.1.items result.2.items) (diag_at diag.old) (diag_at diag.new) result.0 }
+        Listens sight (Some (listening_of listening.now)) (crew workers.items passes.items)
+        (crew result.1.items result.2.items) (diag_at diag.old) (diag_at diag.new) result.0 }
     ensures fault { result.0 ≡ 4 → AcceptFaultRose A.faults workers.items result.1.items
         ⊎ (FileFaultRose F.faults workers.items result.1.items × (result.2.items ≡ passes.items)) }
     ensures worn { result.0 ≡ 6 → SomeWorn seat_of passes.items result.2.items }

@@ -90,7 +90,8 @@ pub(crate) fn store_of<F: Files>(
 /// The spaces in a file.
 fn spaces_of<F: Files>(alloc: Global, files: &mut F, name: &[u8]) -> Result<Spaces, Failure>
     ensures { let at = files_state F.contents F.asked F.faults in
-        (answer : Answer) × ReadsFile (at files.old) (at files.new) name.now answer × IsSpaces (text_in Refusal.SpacesAbsent answer) result }
+        (answer : Answer) × ReadsFile (at files.old) (at files.new) name.now answer
+        × IsSpaces (text_in Refusal.SpacesAbsent answer) result }
 {
     let text = text_of(files, name, Refusal::SpacesAbsent)?;
     Ok(Spaces::read(alloc, text.bytes())?)
@@ -102,7 +103,8 @@ pub(crate) fn site_of<F: Files>(
     files: &mut F,
     place: &Place<'_>,
 ) -> Result<Site, Failure>
-    ensures { LoadsSite (files_state F.contents F.asked F.faults) files.old files.new place.now.store.now place.now.spaces.now place.now.root.now result }
+    ensures { LoadsSite
+        (files_state F.contents F.asked F.faults) files.old files.new place.now.store.now place.now.spaces.now place.now.root.now result }
 {
     let store = store_of(alloc, files, place.store)?;
     let spaces = spaces_of(alloc, files, place.spaces)?;

@@ -20,7 +20,9 @@ pub(crate) fn migrate<L: Link, F: Files>(
 ) -> Result<(), Failure>
     ensures migrates { let at = link_of L.left L.given L.written L.reads in
         Migrates (files_state F.contents F.asked F.faults) name.now files.old files.new (at link.old) (at link.new) result }
-    ensures says { IfErr result (LinkFilesSay L.written L.read_faults L.write_faults (files_state F.contents F.asked F.faults) link.old link.new files.old files.new) }
+    ensures says { IfErr result
+        (LinkFilesSay L.written L.read_faults L.write_faults
+        (files_state F.contents F.asked F.faults) link.old link.new files.old files.new) }
 {
     let store = store_of(alloc, files, name)?;
     let line = numbered_line(alloc, b"migrated ", store.entries() as u64)?;

@@ -30,8 +30,12 @@ pub(crate) fn passwd<L: Link, F: Files, W: Words>(
     random: &mut W,
 ) -> Result<(), Failure>
     ensures passwds { let at = link_of L.left L.given L.written L.reads in
-        Passwds (files_state F.contents F.asked F.faults) W.drawn W.faults account.now.store.now account.now.name.now account.now.realm.now account.now.kind.now account.now.rounds files.old files.new random.old random.new (at link.old) (at link.new) result }
-    ensures says { IfErr result (LinkFilesWordsSay L.written L.read_faults L.write_faults (files_state F.contents F.asked F.faults) W.faults link.old link.new files.old files.new random.old random.new) }
+        Passwds (files_state F.contents F.asked F.faults) W.drawn W.faults account.now.store.now account.now.name.now
+        account.now.realm.now account.now.kind.now account.now.rounds files.old files.new random.old random.new
+        (at link.old) (at link.new) result }
+    ensures says { IfErr result
+        (LinkFilesWordsSay L.written L.read_faults L.write_faults
+        (files_state F.contents F.asked F.faults) W.faults link.old link.new files.old files.new random.old random.new) }
 {
     let kind = kind_of(account)?;
     set_password(alloc, account, kind, link, files, random)
@@ -39,8 +43,11 @@ pub(crate) fn passwd<L: Link, F: Files, W: Words>(
 
 /// The kind of the account. `Usage` comes where no store has such a kind, name or realm.
 fn kind_of(account: &Account<'_>) -> Result<SecretKind, Failure>
-    ensures fit { IfOk result (λ kind. (account.now.kind.now ≡ kind_name kind) × (is_plain_name account.now.name.now ≡ true) × (is_plain_name account.now.realm.now ≡ true)) }
-    ensures unfit { IfErr result (λ failure. (failure ≡ Failure.Usage) × IsUnfit account.now.name.now account.now.realm.now account.now.kind.now) }
+    ensures fit { IfOk result
+        (λ kind. (account.now.kind.now ≡ kind_name kind) × (is_plain_name account.now.name.now ≡ true)
+        × (is_plain_name account.now.realm.now ≡ true)) }
+    ensures unfit { IfErr result
+        (λ failure. (failure ≡ Failure.Usage) × IsUnfit account.now.name.now account.now.realm.now account.now.kind.now) }
 {
     let Some(kind) = SecretKind::named(account.kind) else {
         return Err(Failure::Usage);
@@ -63,8 +70,13 @@ fn set_password<L: Link, F: Files, W: Words>(
     requires name { is_plain_name account.now.name.now ≡ true }
     requires realm { is_plain_name account.now.realm.now ≡ true }
     ensures sets { let at = link_of L.left L.given L.written L.reads in
-        Sets (files_state F.contents F.asked F.faults) W.drawn W.faults account.now.store.now (owner account.now.name.now account.now.realm.now kind account.now.rounds) (set_line account.now.name.now account.now.realm.now account.now.kind.now) files.old files.new random.old random.new (at link.old) (at link.new) result }
-    ensures says { IfErr result (LinkFilesWordsSay L.written L.read_faults L.write_faults (files_state F.contents F.asked F.faults) W.faults link.old link.new files.old files.new random.old random.new) }
+        Sets (files_state F.contents F.asked F.faults) W.drawn W.faults account.now.store.now
+        (owner account.now.name.now account.now.realm.now kind account.now.rounds)
+        (set_line account.now.name.now account.now.realm.now account.now.kind.now) files.old files.new random.old
+        random.new (at link.old) (at link.new) result }
+    ensures says { IfErr result
+        (LinkFilesWordsSay L.written L.read_faults L.write_faults
+        (files_state F.contents F.asked F.faults) W.faults link.old link.new files.old files.new random.old random.new) }
 {
     let password = read_password(alloc, link)?;
     set_secret(alloc, account, kind, password.bytes(), link, files, random)
@@ -83,8 +95,13 @@ fn set_secret<L: Link, F: Files, W: Words>(
     requires name { is_plain_name account.now.name.now ≡ true }
     requires realm { is_plain_name account.now.realm.now ≡ true }
     ensures sets { let at = link_of L.left L.given L.written L.reads in
-        SetsEntry (files_state F.contents F.asked F.faults) W.drawn W.faults account.now.store.now (owner account.now.name.now account.now.realm.now kind account.now.rounds) (set_line account.now.name.now account.now.realm.now account.now.kind.now) password.now files.old files.new random.old random.new (at link.old) (at link.new) result }
-    ensures says { IfErr result (LinkFilesWordsSay L.written L.read_faults L.write_faults (files_state F.contents F.asked F.faults) W.faults link.old link.new files.old files.new random.old random.new) }
+        SetsEntry (files_state F.contents F.asked F.faults) W.drawn W.faults account.now.store.now
+        (owner account.now.name.now account.now.realm.now kind account.now.rounds)
+        (set_line account.now.name.now account.now.realm.now account.now.kind.now) password.now files.old files.new
+        random.old random.new (at link.old) (at link.new) result }
+    ensures says { IfErr result
+        (LinkFilesWordsSay L.written L.read_faults L.write_faults
+        (files_state F.contents F.asked F.faults) W.faults link.old link.new files.old files.new random.old random.new) }
 {
     let store = kept_store(alloc, files, account.store)?;
     let secret = secret_of(account, kind, password, random)?;
@@ -98,7 +115,8 @@ fn secret_of<W: Words>(
     password: &[u8],
     random: &mut W,
 ) -> Result<Secret, Failure>
-    ensures makes { MakesSecret W.drawn W.faults (owner account.now.name.now account.now.realm.now kind account.now.rounds) kind password.now random.old random.new result }
+    ensures makes { MakesSecret W.drawn W.faults
+        (owner account.now.name.now account.now.realm.now kind account.now.rounds) kind password.now random.old random.new result }
     ensures form { IfOk result IsSecret }
 {
     match kind {
@@ -115,7 +133,8 @@ fn secret_of<W: Words>(
 /// The keys of a password, by a salt that is drawn.
 fn keys_of<W: Words>(password: &[u8], rounds: u32, random: &mut W) -> Result<Secret, Failure>
     requires { 1 ≤ rounds }
-    ensures makes { MakesKeys password.now rounds (W.drawn random.old) (W.drawn random.new) (W.faults random.old) (W.faults random.new) result }
+    ensures makes { MakesKeys password.now rounds (W.drawn random.old) (W.drawn random.new) (W.faults random.old)
+        (W.faults random.new) result }
     ensures form { IfOk result IsSecret }
 {
     let Ok(words) = random.draw() else {
@@ -140,8 +159,12 @@ fn save_secret<L: Link, F: Files>(
     requires form { IsSecret secret.now }
     ensures saves { let at = files_state F.contents F.asked F.faults in
         let link_at = link_of L.left L.given L.written L.reads in
-        Saves (at files.old) (at files.new) account.now.store.now (put_in (entry_at account.now.name.now account.now.realm.now secret.now true) store) (set_line account.now.name.now account.now.realm.now account.now.kind.now) (link_at link.old) (link_at link.new) result }
-    ensures says { IfErr result (LinkFilesSay L.written L.read_faults L.write_faults (files_state F.contents F.asked F.faults) link.old link.new files.old files.new) }
+        Saves (at files.old) (at files.new) account.now.store.now
+        (put_in (entry_at account.now.name.now account.now.realm.now secret.now true) store)
+        (set_line account.now.name.now account.now.realm.now account.now.kind.now) (link_at link.old) (link_at link.new) result }
+    ensures says { IfErr result
+        (LinkFilesSay L.written L.read_faults L.write_faults
+        (files_state F.contents F.asked F.faults) link.old link.new files.old files.new) }
 {
     let mut store = store;
     put(alloc, &mut store, account, secret)?;

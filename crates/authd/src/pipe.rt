@@ -24,9 +24,12 @@ pub(crate) fn pipe<L: Link, F: Files, C: Clock, W: Words>(
     clock: &mut C,
     random: &mut W,
 ) -> Result<(), Failure>
-    ensures pipes { let v = views (link_of L.left L.given L.written L.reads) L.read_faults L.write_faults (files_state F.contents F.asked F.faults) C.shown W.drawn W.faults in
-        Pipes v place.now.store.now place.now.spaces.now place.now.root.now (objects link.old files.old clock.old random.old) (objects link.new files.new clock.new random.new) result }
-    ensures says { let v = views (link_of L.left L.given L.written L.reads) L.read_faults L.write_faults (files_state F.contents F.asked F.faults) C.shown W.drawn W.faults in
+    ensures pipes { let v = views (link_of L.left L.given L.written L.reads) L.read_faults L.write_faults
+        (files_state F.contents F.asked F.faults) C.shown W.drawn W.faults in
+        Pipes v place.now.store.now place.now.spaces.now place.now.root.now
+        (objects link.old files.old clock.old random.old) (objects link.new files.new clock.new random.new) result }
+    ensures says { let v = views (link_of L.left L.given L.written L.reads) L.read_faults L.write_faults
+        (files_state F.contents F.asked F.faults) C.shown W.drawn W.faults in
         IfErr result (FailureSays v (objects link.old files.old clock.old random.old) (objects link.new files.new clock.new random.new)) }
 {
     let site = site_of(alloc, files, place)?;
@@ -53,9 +56,11 @@ fn serve<L: Link, F: Files, C: Clock, W: Words>(
     clock: &mut C,
     random: &mut W,
 ) -> Result<(), Failure>
-    ensures serves { let v = views (link_of L.left L.given L.written L.reads) L.read_faults L.write_faults (files_state F.contents F.asked F.faults) C.shown W.drawn W.faults in
+    ensures serves { let v = views (link_of L.left L.given L.written L.reads) L.read_faults L.write_faults
+        (files_state F.contents F.asked F.faults) C.shown W.drawn W.faults in
         ServesSite v site.now (objects link.old files.old clock.old random.old) (objects link.new files.new clock.new random.new) result }
-    ensures says { let v = views (link_of L.left L.given L.written L.reads) L.read_faults L.write_faults (files_state F.contents F.asked F.faults) C.shown W.drawn W.faults in
+    ensures says { let v = views (link_of L.left L.given L.written L.reads) L.read_faults L.write_faults
+        (files_state F.contents F.asked F.faults) C.shown W.drawn W.faults in
         IfErr result (FailureSays v (objects link.old files.old clock.old random.old) (objects link.new files.new clock.new random.new)) }
 {
     let mut table = open_table(alloc)?;

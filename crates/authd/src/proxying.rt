@@ -97,8 +97,11 @@ where
     N::Out: Send,
     requires as_many { vec_len workers ≡ vec_len passes }
     requires of_table { All (λ pass. IsOf table.now pass) passes.items }
-    ensures serves { let sight = sight_of A.coming A.handed A.faults N.dialled N.coming N.handed N.faults N.link_faults F.contents F.asked F.faults C.shown W.drawn W.faults seat_of in
-        (end : Result Finish OutOfMemory) × ServesSite sight site.now.site connections (crew workers.items passes.items) (crew result.1.items result.2.items) end × (result.0 ≡ status_for end) }
+    ensures serves { let sight = sight_of A.coming A.handed A.faults N.dialled N.coming N.handed N.faults N.link_faults F.contents
+        F.asked F.faults C.shown W.drawn W.faults seat_of in
+        (end : Result Finish OutOfMemory)
+        × ServesSite sight site.now.site connections (crew workers.items passes.items)
+        (crew result.1.items result.2.items) end × (result.0 ≡ status_for end) }
     ensures accept_fault { result.0 ≡ 4 → AcceptFaultRose A.faults workers.items result.1.items }
     ensures worn { result.0 ≡ 6 → SomeWorn seat_of passes.items result.2.items }
     ensures as_many_workers { vec_len result.1 ≡ vec_len workers }
@@ -141,9 +144,11 @@ where
     requires some { 1 ≤ vec_len workers }
     requires as_many { vec_len workers ≡ vec_len passes }
     requires of_table { All (λ pass. IsOf table.now pass) passes.items }
-    ensures proxies { let sight = sight_of A.coming A.handed A.faults N.dialled N.coming N.handed N.faults N.link_faults F.contents F.asked F.faults C.shown W.drawn W.faults seat_of in
+    ensures proxies { let sight = sight_of A.coming A.handed A.faults N.dialled N.coming N.handed N.faults N.link_faults F.contents
+        F.asked F.faults C.shown W.drawn W.faults seat_of in
         let diag_at = diag_state D.written D.faults in
-        Proxies sight (Some (proxying_of proxying.now)) (crew workers.items passes.items) (crew result.1.items result.2.items) (diag_at diag.old) (diag_at diag.new) result.0 }
+        Proxies sight (Some (proxying_of proxying.now)) (crew workers.items passes.items)
+        (crew result.1.items result.2.items) (diag_at diag.old) (diag_at diag.new) result.0 }
     ensures fault { result.0 ≡ 4 → AcceptFaultRose A.faults workers.items result.1.items
         ⊎ (FileFaultRose F.faults workers.items result.1.items × (result.2.items ≡ passes.items)) }
     ensures worn { result.0 ≡ 6 → SomeWorn seat_of passes.items result.2.items }
@@ -195,7 +200,8 @@ where
     requires as_many { vec_len workers ≡ vec_len passes }
     requires of_table { All (λ pass. IsOf table.now pass) passes.items }
     // At each place one relation holds between the worker and its pass as they were given and as they are handed back.
-    ensures proxies { let sight = sight_of A.coming A.handed A.faults N.dialled N.coming N.handed N.faults N.link_faults F.contents F.asked F.faults C.shown W.drawn W.faults seat_of in
+    ensures proxies { let sight = sight_of A.coming A.handed A.faults N.dialled N.coming N.handed N.faults N.link_faults F.contents
+        F.asked F.faults C.shown W.drawn W.faults seat_of in
         let diag_at = diag_state D.written D.faults in
         Proxies sight (for_workers (vec_len workers) (proxying_in (command_of (map string_bytes words.now.items))))
         (crew workers.items passes.items) (crew result.1.items result.2.items) (diag_at diag.old) (diag_at diag.new) result.0 }

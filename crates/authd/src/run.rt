@@ -36,16 +36,22 @@ pub fn run<L: Link, F: Files, C: Clock, W: Words, D: Sink>(
     diag: &mut D,
 ) -> u8
     // What the words ask for is done, with some ending, which the status and the line on diag tell.
-    ensures does { let v = views (link_of L.left L.given L.written L.reads) L.read_faults L.write_faults (files_state F.contents F.asked F.faults) C.shown W.drawn W.faults in
-        (ending : Ending) × Does v (asked_for (map string_bytes words.now.items)) (objects link.old files.old clock.old random.old) (objects link.new files.new clock.new random.new) ending
+    ensures does { let v = views (link_of L.left L.given L.written L.reads) L.read_faults L.write_faults
+        (files_state F.contents F.asked F.faults) C.shown W.drawn W.faults in
+        (ending : Ending)
+        × Does v (asked_for (map string_bytes words.now.items)) (objects link.old files.old clock.old random.old)
+        (objects link.new files.new clock.new random.new) ending
         × Reports ending (D.written diag.old) (D.written diag.new) (D.faults diag.old) (D.faults diag.new) result }
 
     // Where the words, the input or a file is refused nothing is written, and no file changes.
-    ensures refused { let v = views (link_of L.left L.given L.written L.reads) L.read_faults L.write_faults (files_state F.contents F.asked F.faults) C.shown W.drawn W.faults in
-        IsRefusal result → IsUntouched v (objects link.old files.old clock.old random.old) (objects link.new files.new clock.new random.new) }
+    ensures refused { let v = views (link_of L.left L.given L.written L.reads) L.read_faults L.write_faults
+        (files_state F.contents F.asked F.faults) C.shown W.drawn W.faults in
+        IsRefusal result
+        → IsUntouched v (objects link.old files.old clock.old random.old) (objects link.new files.new clock.new random.new) }
 
     // No fault is answered without its cause.
-    ensures fault { let v = views (link_of L.left L.given L.written L.reads) L.read_faults L.write_faults (files_state F.contents F.asked F.faults) C.shown W.drawn W.faults in
+    ensures fault { let v = views (link_of L.left L.given L.written L.reads) L.read_faults L.write_faults
+        (files_state F.contents F.asked F.faults) C.shown W.drawn W.faults in
         result ≡ 4 → SomeRose v (objects link.old files.old clock.old random.old) (objects link.new files.new clock.new random.new) }
 {
     let ending = perform(alloc, words.as_slice(), link, files, clock, random);
@@ -61,9 +67,12 @@ fn perform<L: Link, F: Files, C: Clock, W: Words>(
     clock: &mut C,
     random: &mut W,
 ) -> Result<(), Failure>
-    ensures does { let v = views (link_of L.left L.given L.written L.reads) L.read_faults L.write_faults (files_state F.contents F.asked F.faults) C.shown W.drawn W.faults in
-        Does v (asked_for (map string_bytes words.now)) (objects link.old files.old clock.old random.old) (objects link.new files.new clock.new random.new) result }
-    ensures says { let v = views (link_of L.left L.given L.written L.reads) L.read_faults L.write_faults (files_state F.contents F.asked F.faults) C.shown W.drawn W.faults in
+    ensures does { let v = views (link_of L.left L.given L.written L.reads) L.read_faults L.write_faults
+        (files_state F.contents F.asked F.faults) C.shown W.drawn W.faults in
+        Does v (asked_for (map string_bytes words.now)) (objects link.old files.old clock.old random.old)
+        (objects link.new files.new clock.new random.new) result }
+    ensures says { let v = views (link_of L.left L.given L.written L.reads) L.read_faults L.write_faults
+        (files_state F.contents F.asked F.faults) C.shown W.drawn W.faults in
         IfErr result (FailureSays v (objects link.old files.old clock.old random.old) (objects link.new files.new clock.new random.new)) }
 {
     match asked_for(words) {

@@ -24,7 +24,9 @@ pub(crate) fn save<L: Link, F: Files>(
     ensures saves { let at = files_state F.contents F.asked F.faults in
         let link_at = link_of L.left L.given L.written L.reads in
         Saves (at files.old) (at files.new) name.now store.now line.now (link_at link.old) (link_at link.new) result }
-    ensures says { IfErr result (LinkFilesSay L.written L.read_faults L.write_faults (files_state F.contents F.asked F.faults) link.old link.new files.old files.new) }
+    ensures says { IfErr result
+        (LinkFilesSay L.written L.read_faults L.write_faults
+        (files_state F.contents F.asked F.faults) link.old link.new files.old files.new) }
 {
     let text = store.write(alloc)?;
     replace(files, name, text.bytes())?;

@@ -26,8 +26,11 @@ pub(crate) fn switch<L: Link, F: Files>(
     files: &mut F,
 ) -> Result<(), Failure>
     ensures switches { let at = link_of L.left L.given L.written L.reads in
-        Switches (files_state F.contents F.asked F.faults) holder.now.store.now holder.now.name.now holder.now.realm.now on files.old files.new (at link.old) (at link.new) result }
-    ensures says { IfErr result (LinkFilesSay L.written L.read_faults L.write_faults (files_state F.contents F.asked F.faults) link.old link.new files.old files.new) }
+        Switches (files_state F.contents F.asked F.faults) holder.now.store.now holder.now.name.now holder.now.realm.now on
+        files.old files.new (at link.old) (at link.new) result }
+    ensures says { IfErr result
+        (LinkFilesSay L.written L.read_faults L.write_faults
+        (files_state F.contents F.asked F.faults) link.old link.new files.old files.new) }
 {
     let mut store = store_of(alloc, files, holder.store)?;
     let count = store.set_enabled(holder.name, holder.realm, on);
@@ -54,8 +57,11 @@ fn save_some<L: Link, F: Files>(
     files: &mut F,
 ) -> Result<(), Failure>
     ensures saves { let at = link_of L.left L.given L.written L.reads in
-        SavesSome (files_state F.contents F.asked F.faults) files.old files.new name.now count store.now line.now (at link.old) (at link.new) result }
-    ensures says { IfErr result (LinkFilesSay L.written L.read_faults L.write_faults (files_state F.contents F.asked F.faults) link.old link.new files.old files.new) }
+        SavesSome (files_state F.contents F.asked F.faults) files.old files.new name.now count store.now line.now
+        (at link.old) (at link.new) result }
+    ensures says { IfErr result
+        (LinkFilesSay L.written L.read_faults L.write_faults
+        (files_state F.contents F.asked F.faults) link.old link.new files.old files.new) }
 {
     if count == 0 {
         return print(link, line);

@@ -154,7 +154,8 @@ pub fn serve_next<L: Link, C: Clock, R: Responder>(
     requires within { feed.old.at + length feed.old.rest ≤ L.given link.old }
     ensures steps { let at = link_of L.left L.given L.written L.reads in
         StepsFrom R.machine (R.lacked responder.old responder.new) (R.passed responder.old responder.new) (at link.old) (at link.new)
-        (Adds (C.shown clock.old) (C.shown clock.new)) (place_at (R.state responder.old) feed.old requests admitted) (R.state responder.new) feed.new result }
+        (Adds (C.shown clock.old) (C.shown clock.new)) (place_at (R.state responder.old) feed.old requests admitted)
+        (R.state responder.new) feed.new result }
     ensures few { AdmitsOne result }
     ensures at_end { StepLeavesNone (L.left link.new) result }
     ensures within { OnOk result (feed.new.at + length feed.new.rest ≤ L.given link.new) }

@@ -21,7 +21,8 @@ pub(crate) fn place_of(
     requires { IsRising entries.now }
     ensures found { IfOk result (HoldsAt (Stands (key_at name.now realm.now kind) Equal) entries.now) }
     ensures found_bound { IfOk result (λ at. at < length entries.now) }
-    ensures free { IfErr result (IsPartitionPoint (Stands (key_at name.now realm.now kind) Less) (Stands (key_at name.now realm.now kind) Greater) entries.now) }
+    ensures free { IfErr result
+        (IsPartitionPoint (Stands (key_at name.now realm.now kind) Less) (Stands (key_at name.now realm.now kind) Greater) entries.now) }
     ensures free_bound { IfErr result (λ at. at ≤ length entries.now) }
 {
     entries.binary_search_by(|entry| compare(entry, name, realm, kind))

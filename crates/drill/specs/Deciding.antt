@@ -132,7 +132,8 @@ Ends q before now told drawn (Err error) = Stops q before now error
 -- ---- deciding
 
 -- The request was decided on, with the credentials that its lines say.
-pub record Decides (moment : ℕ) (request : Request) (before now : Journal) (told drawn : Option (List (List ℕ))) (verdict : VerdictValue) : Type 0 where
+pub record Decides (moment : ℕ) (request : Request) (before now : Journal) (told drawn : Option (List (List ℕ)))
+    (verdict : VerdictValue) : Type 0 where
   pub credentials : RequestCredentials
   pub reads : Reads (credentials_lines Origin request) credentials
   pub ended : IsEnded (question moment request credentials) before now told drawn verdict

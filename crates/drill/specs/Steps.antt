@@ -53,7 +53,8 @@ pub record IsStep (event : DrillEvent) (old new : Scene) (before now : Journal) 
 -- The client is as its last call left it: it forgot its nonce, or credentials were asked of it.
 abbrev pub LeavesClient : DrillEvent → State → ℕ → State → Type 0
 LeavesClient Challenge old moment new = new ≡ forgotten old
-LeavesClient Make old moment new = DrewAtMost old new ⊎ ((words : List ℕ) × (what : Sent) × (given old out_request moment words ≡ (what, new)))
+LeavesClient Make old moment new =
+    DrewAtMost old new ⊎ ((words : List ℕ) × (what : Sent) × (given old out_request moment words ≡ (what, new)))
 LeavesClient (Deliver k) old moment new = new ≡ old
 LeavesClient (Pass seconds) old moment new = new ≡ old
 

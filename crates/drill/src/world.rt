@@ -186,7 +186,8 @@ impl World {
         requires sizes { table.old.sizes ≡ single_sizes }
         requires low { AreLow self.old.tally }
         requires made { k < length self.old.made }
-        ensures ok { OnOk result (IsStep (event.Deliver k) self.old self.new table.old table.new (W.drawn random.old) (W.drawn random.new)) }
+        ensures ok { OnOk result
+            (IsStep (event.Deliver k) self.old self.new table.old table.new (W.drawn random.old) (W.drawn random.new)) }
         ensures err { OnErr result (IsLeft (event.Deliver k) self.old self.new) }
         ensures begun { OnErr result (Begins table.old table.new) }
         ensures worn { (calls : ℕ) → result ≡ Err (DrillError.Worn calls) → IsWornBy (event.Deliver k) self.old table.old table.new calls }

@@ -4,7 +4,8 @@ use Rattle.http_wire.specs.declared.request.Next.{Next}
 use Rattle.http_wire.specs.declared.request.Next.TheVariants.{Message, Continue, NeedMore, Bad, OutOfMemory}
 use Rattle.http_wire.specs.Requests.{Unfinished, Whole, Wrong, front, is_due}
 
--- what a feed holds: the bytes after the messages that it gave, their place, whether a Continue was given for them, and whether it stopped at a bad message
+-- what a feed holds: the bytes after the messages that it gave, their place, whether a Continue was given for them, and
+-- whether it stopped at a bad message
 pub record Held : Type 0 where
   pub rest : List ℕ
   pub at : ℕ

@@ -399,7 +399,9 @@ impl ResponseFeed {
     fn read_data(&mut self, mut response: Response, at: u64, left: u32, line_at: u64) -> Step
         requires some { 0 < left }
         requires goes { is_over self.old ≡ false }
-        ensures { Steps (λ more. chunk_data (λ r p b. chunks r at p b) response at line_at (place_of self.old) left (self.old.rest ++ more)) self.old self.new result }
+        ensures { Steps
+            (λ more. chunk_data (λ r p b. chunks r at p b) response at line_at (place_of self.old) left
+            (self.old.rest ++ more)) self.old self.new result }
     {
         let Ok(count) = self.move_body(&mut response.body, left as usize) else {
             let part = Part::Data { left, line_at };

@@ -114,7 +114,8 @@ where
     ensures each { let service = origin_service F.contents F.asked F.faults C.shown W.drawn W.faults pass_seat site.now in
         let at = state_of A.coming A.handed A.faults in
         IfOk result.0 (λ whole. EndsAsWorst (vec_len workers) whole (λ k finish. (w : Worker A F C W) (t : TablePassFacts) →
-        Serves service (at (slice_index_or workers.items k w) (slice_index_or passes.items k t)) (at (slice_index_or result.1.items k w) (slice_index_or result.2.items k t)) count finish)) }
+        Serves service (at (slice_index_or workers.items k w) (slice_index_or passes.items k t))
+        (at (slice_index_or result.1.items k w) (slice_index_or result.2.items k t)) count finish)) }
 
     // Neither comes without its cause at one of the places.
     ensures accept_fault { result.0 ≡ Ok Finish.AcceptFault → (k : ℕ) × (k < vec_len workers)

@@ -110,7 +110,8 @@ pub fn reply_for<F: Files>(
     files: &mut F,
 ) -> Result<Response, OutOfMemory>
     ensures { let at = files_state F.contents F.asked F.faults in
-        CarriesOut (at files.old) (at files.new) (incoming_of incoming.now) verdict (plan_of root.now incoming.now.request.now verdict) result }
+        CarriesOut (at files.old) (at files.new) (incoming_of incoming.now) verdict
+        (plan_of root.now incoming.now.request.now verdict) result }
 {
     let plan = plan_of(alloc, root, incoming.request, &verdict)?;
     carry_out(alloc, incoming, verdict, plan, files)

@@ -190,11 +190,12 @@ impl<'s, 'd, 'w, 't, D: Dial, W: Words, T: TableSeat> Responder for Parts<'s, 'd
     ghost passed_none = { λ a. let at = outside_at D.dialled D.coming D.handed D.faults D.link_faults W.drawn W.faults T.seat in
         ((refl, refl, refl, refl), passed_none (at a.dial.now a.random.now a.seat.now)) };
 
-    ghost passed_join = { λ a b c xs ys p q. let at = outside_at D.dialled D.coming D.handed D.faults D.link_faults W.drawn W.faults T.seat in (
-      (q.0.0 ∙ p.0.0, q.0.1 ∙ p.0.1, q.0.2 ∙ p.0.2, q.0.3 ∙ p.0.3),
-      passed_then (at a.dial.now a.random.now a.seat.now) (at b.dial.now b.random.now b.seat.now)
-          (at c.dial.now c.random.now c.seat.now) xs ys p.1 q.1,
-    ) };
+    ghost passed_join = { λ a b c xs ys p q.
+        let at = outside_at D.dialled D.coming D.handed D.faults D.link_faults W.drawn W.faults T.seat in (
+          (q.0.0 ∙ p.0.0, q.0.1 ∙ p.0.1, q.0.2 ∙ p.0.2, q.0.3 ∙ p.0.3),
+          passed_then (at a.dial.now a.random.now a.seat.now) (at b.dial.now b.random.now b.seat.now)
+              (at c.dial.now c.random.now c.seat.now) xs ys p.1 q.1,
+        ) };
 
     ghost lacked_later = { λ a b c xs p. let at = outside_at D.dialled D.coming D.handed D.faults D.link_faults W.drawn W.faults T.seat in
         lacked_later (at a.dial.now a.random.now a.seat.now).table (at b.dial.now b.random.now b.seat.now).table

@@ -75,7 +75,8 @@ impl<N: Dial, F, C: Clock, W: Words, T: TableSeat> Server for ProxyServer<N, F, 
       passed_none (outside_at N.dialled N.coming N.handed N.faults N.link_faults W.drawn W.faults T.seat a),
     ) };
 
-    ghost passed_join = { λ a b c xs ys p q. let at = outside_at N.dialled N.coming N.handed N.faults N.link_faults W.drawn W.faults T.seat in
+    ghost passed_join = { λ a b c xs ys p q.
+        let at = outside_at N.dialled N.coming N.handed N.faults N.link_faults W.drawn W.faults T.seat in
         (q.0 ∙ p.0, passed_then (at a) (at b) (at c) xs ys p.1 q.1) };
 
     ghost lacked_later = { λ a b c xs p. let at = outside_at N.dialled N.coming N.handed N.faults N.link_faults W.drawn W.faults T.seat in

@@ -127,10 +127,12 @@ where
     requires of_table { All (λ pass. IsOf table.now pass) passes.items }
     // Between each worker and its pass as they were given and as they are handed back, at the same place, one relation
     // holds, and the end is the worst of theirs.
-    ensures each { let service = proxy_service N.dialled N.coming N.handed N.faults N.link_faults C.shown W.drawn W.faults pass_seat site.now.site in
+    ensures each { let service =
+        proxy_service N.dialled N.coming N.handed N.faults N.link_faults C.shown W.drawn W.faults pass_seat site.now.site in
         let at = state_of A.coming A.handed A.faults in
         IfOk result.0 (λ whole. EndsAsWorst (vec_len workers) whole (λ k finish. (w : ProxyWorker A N F C W) (t : TablePassFacts) →
-        Serves service (at (slice_index_or workers.items k w) (slice_index_or passes.items k t)) (at (slice_index_or result.1.items k w) (slice_index_or result.2.items k t)) count finish)) }
+        Serves service (at (slice_index_or workers.items k w) (slice_index_or passes.items k t))
+        (at (slice_index_or result.1.items k w) (slice_index_or result.2.items k t)) count finish)) }
 
     // Neither comes without its cause at one of the places.
     ensures accept_fault { result.0 ≡ Ok Finish.AcceptFault → (k : ℕ) × (k < vec_len workers)

@@ -20,7 +20,8 @@ pub struct ClientFinal {
     pub without: Octets,
     pub proof: [u8; DIGEST_LENGTH],
     pub ghost is_nonce: { some_of is_nonce_byte nonce ≡ true },
-    ghost spelled: { ∥ SpellsClientFinal (client_final_text without proof) (record { flag = flag; nonce = nonce; without = without; proof = proof }) ∥₁ },
+    ghost spelled: { ∥ SpellsClientFinal (client_final_text without proof)
+        (record { flag = flag; nonce = nonce; without = without; proof = proof }) ∥₁ },
 }
 
 impl ClientFinal {

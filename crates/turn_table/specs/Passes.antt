@@ -6,7 +6,8 @@ use Rattle.turn_table.specs.Lists.{Each, BeginsWith, Differ}
 use Rattle.turn_table.specs.History.{Entry, calls_in, GrownByOthers, longer, owners_of}
 
 module _ {C : Type 0} where
-  -- An owner's list and another are both beginnings of the history, so one of the two begins with the other. The longer one begins with both, and with no other call of the owner's than those in its list.
+  -- An owner's list and another are both beginnings of the history, so one of the two begins with the other. The longer
+  -- one begins with both, and with no other call of the owner's than those in its list.
   pub record AreOfOneHistory (owner : ℕ) (own other : List (Entry C)) : Type 0 where
     pub own_list : GrownByOthers (longer own other) owner own
     pub other_list : BeginsWith (longer own other) other
@@ -16,7 +17,9 @@ pub record TableFacts (S : Type 0) : Type 0 where
   pub id : TableId
   pub setting : S
 
--- a pass: its table and that table's setting, its owner number, the calls that it has seen, how many passes were split from it, the owner and the list of each pass that was joined into it, and the greatest number of calls that it was told of
+-- a pass: its table and that table's setting, its owner number, the calls that it has seen, how many passes were split
+-- from it, the owner and the list of each pass that was joined into it, and the greatest number of calls that it was
+-- told of
 pub record PassFacts (C S : Type 0) : Type 0 where
   pub table : TableId
   pub setting : Option S
@@ -43,7 +46,8 @@ module _ {C S : Type 0} where
     noted = max opening.noted other.noted;
   }
 
-  -- A pass had its call answered: at its turn the history, `before`, began with what it had seen and went on with calls of others alone. The reply is the object's to the call after those, and now the pass has seen them and its call.
+  -- A pass had its call answered: at its turn the history, `before`, began with what it had seen and went on with calls
+  -- of others alone. The reply is the object's to the call after those, and now the pass has seen them and its call.
   pub record Answers {R : Type 0} (reply_after : S → List C → C → R) (old : PassFacts C S) (call : C) (reply : R)
       (new : PassFacts C S) : Type 0 where
     pub before : List (Entry C)
@@ -60,7 +64,8 @@ module _ {C S : Type 0} where
     pub below : old.noted ≤ calls
     pub noted : new ≡ record old { noted = calls }
 
-  -- The opening pass, into which every other was joined, has seen the whole history: each entry is of a pass, each pass was joined once, and its list has all its entries.
+  -- The opening pass, into which every other was joined, has seen the whole history: each entry is of a pass, each pass
+  -- was joined once, and its list has all its entries.
   pub record HasWholeHistory (opening : PassFacts C S) : Type 0 where
     pub owners : Each (λ e. e.0 ≤ opening.made) opening.seen
     pub differ : Differ (owners_of opening.kept)

@@ -69,7 +69,8 @@ module _ {D C S : Type 0} where
     pub turn : TurnFits {D = D} log served queue homes w.owner w.turn
     pub opening : w.owner ≡ 0 → (w.made ≡ made) × (w.kept ≡ kept) × Each (λ p. BeginsWith w.seen p.1) kept
 
-  -- There are a history of calls, the number that is served, the owners that wait, how many passes were split, and the lists of those that were joined, of which the words, the slot and the views tell.
+  -- There are a history of calls, the number that is served, the owners that wait, how many passes were split, and the
+  -- lists of those that were joined, of which the words, the slot and the views tell.
   pub record Account (stands : D → List C → Type 0) (setting : D → S) (st : S) (s : State (Option D) (View C S)) : Type 0 where
     pub log : List (Entry C)
     pub served : ℕ

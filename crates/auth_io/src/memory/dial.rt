@@ -80,7 +80,8 @@ impl Dial for MemDial {
     ghost link_faults = { λ s. ⟦<MemAccept as Accept>⟧.link_faults s.links };
 
     fn dial(&mut self, authority: &[u8]) -> Result<MemLink, DialFault>
-        ensures dialled { Adds (⟦<MemDial as Dial>⟧.dialled self.old) (⟦<MemDial as Dial>⟧.dialled self.new) (told_dials authority.now result) }
+        ensures dialled { Adds (⟦<MemDial as Dial>⟧.dialled self.old) (⟦<MemDial as Dial>⟧.dialled self.new)
+            (told_dials authority.now result) }
         ensures bytes { IfOk result (λ link. HandsFirst (⟦<MemDial as Dial>⟧.coming self.old) (⟦<MemDial as Dial>⟧.coming self.new)
             (⟦<MemLink as Link>⟧.left link)) }
         ensures empty { IfOk result (λ link. StartsEmpty (⟦<MemDial as Dial>⟧.handed self.new) (⟦<MemLink as Link>⟧.written link)) }
