@@ -21,12 +21,13 @@ use Rattle.authd.specs.declared.failure.Fault.TheVariants as fault
 use Rattle.authd.specs.declared.failure.Refusal.{Refusal}
 use Rattle.authd.specs.declared.failure.Refusal.TheVariants as refusal
 use Rattle.origin_core.specs.Outside.{FilesState}
+use Rattle.origin_core.specs.declared.carrying.TheConstants.{FILE_LIMIT}
 
 -- ---- one file
 
--- one file was read, of at most 16,777,216 bytes, with this answer
+-- one file was read, of no more bytes than a file may have, with this answer
 pub record ReadsFile (before now : FilesState) (name : List ℕ) (answer : FileAnswer) : Type 0 where
-  pub answers : ReadAnswers before.contents name 16777216 answer
+  pub answers : ReadAnswers before.contents name FILE_LIMIT answer
   pub contents : now.contents ≡ before.contents
   pub asked : AddsAsked before.asked now.asked (read_entry name answer)
   pub faults : ReadRose answer before.faults now.faults

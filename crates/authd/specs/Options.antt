@@ -3,6 +3,7 @@ use Rattle.std.specs.Prelude.{ℕ, Bool, false, ◌==◌, ◌&&◌, bytes_eq, na
 use Rattle.std.specs.List.{list_all, starts_with}
 use Rattle.std.specs.Option.{option_or}
 use Rattle.drill.specs.declared.drilling.TheConstants.{MOST_STEPS}
+use Rattle.scram_proof.specs.declared.keys.TheConstants.{LEAST_ITERATIONS, MOST_ITERATIONS}
 use Rattle.authd.specs.Numbers.{number_in}
 use Rattle.authd.specs.Words.{Command, Usage, Drill, Passwd, command_of, is_word}
 
@@ -25,7 +26,7 @@ option_number name least most option =
 
 -- an iteration count
 abbrev pub rounds_in : List ℕ → Option ℕ
-rounds_in option = option_number (codes "--rounds=") 4096 1000000 option
+rounds_in option = option_number (codes "--rounds=") LEAST_ITERATIONS MOST_ITERATIONS option
 
 abbrev pub with_rounds : List ℕ → List ℕ → List ℕ → List ℕ → Option ℕ → Command
 with_rounds store name realm kind None = Usage

@@ -1,6 +1,7 @@
 -- What the words of the command line ask for.
 use Rattle.std.specs.Prelude.{ℕ, Bool, true, false, ◌==◌, not, bytes_eq, if◌then◌else◌, List, [], ◌∷◌, Option, Some, None, codes}
 use Rattle.std.specs.List.{list_all}
+use Rattle.scram_proof.specs.declared.keys.TheConstants.{LEAST_ITERATIONS}
 use Rattle.authd.specs.Numbers.{is_address, number_in}
 use Rattle.authd.specs.declared.crew.TheConstants.{MOST_WORKERS, MOST_CONNECTIONS}
 
@@ -67,7 +68,7 @@ import_with (store ∷ htdigest ∷ []) = Import store htdigest
 import_with words = Usage
 
 abbrev pub passwd_with : List (List ℕ) → Command
-passwd_with (store ∷ name ∷ realm ∷ kind ∷ []) = Passwd store name realm kind 4096
+passwd_with (store ∷ name ∷ realm ∷ kind ∷ []) = Passwd store name realm kind LEAST_ITERATIONS
 passwd_with words = Usage
 
 abbrev pub switch_with : Bool → List (List ℕ) → Command

@@ -1,9 +1,6 @@
 //! Whose secret is to be set.
 ghost use Rattle.std.specs.Prelude.{◌≤◌};
 
-/// How many iterations the secret of a kind that has them takes, where no option says another count.
-pub(crate) const ROUNDS: u32 = 4_096;
-
 /// Whose secret is to be set: the name of the file of the store, a name, a realm, a kind and an iteration count.
 #[derive(Clone, Copy)]
 pub(crate) struct Account<'w> {

@@ -5,11 +5,12 @@ ghost use Rattle.std.specs.Option.{option_map};
 ghost use Rattle.authd.specs.Commands.{listening_of, meaning, parts_of, proxying_of};
 ghost use Rattle.authd.specs.Words.{by_name, crew_in, check_with, command_of, import_with, is_word, listen_at, listen_with, listening_in, migrate_with, named, passwd_with, pipe_with, proxy_at, proxy_with, proxying_in, show_with, switch_with};
 
-use crate::account::{Account, ROUNDS};
+use crate::account::Account;
 use crate::crew::{Crew, Listening, MOST_CONNECTIONS, MOST_WORKERS, Proxying};
 use crate::drill_plan::DrillPlan;
 use crate::numbers::{is_address, small_number_in};
 use auth_grammar::{Octets, OutOfMemory};
+use scram_proof::LEAST_ITERATIONS;
 use std::alloc::Global;
 
 /// Where a site stands: the names of the files of its store and of its spaces, and the folder of its files.
@@ -155,7 +156,7 @@ fn passwd_with(words: &[String]) -> Command<'_>
             name: name.as_bytes(),
             realm: realm.as_bytes(),
             kind: kind.as_bytes(),
-            rounds: ROUNDS,
+            rounds: LEAST_ITERATIONS,
         }),
         _ => Command::Usage,
     }

@@ -1,6 +1,7 @@
 //! Reading a whole input of limited length.
 ghost use Rattle.std.specs.Prelude.{◌≡◌, ◌≤◌, Err, length};
 ghost use Rattle.auth_io.specs.Causes.{Rose};
+ghost use Rattle.authd.specs.declared.input.TheConstants.{INPUT_LIMIT};
 ghost use Rattle.authd.specs.Inputs.{ReadsInput, ReadsPiece};
 
 use crate::failure::{Failure, Fault, Refusal};
@@ -9,14 +10,14 @@ use auth_io::Link;
 use std::alloc::Global;
 
 /// How many bytes an input may have.
-const INPUT_LIMIT: usize = 16_384;
+pub(crate) const INPUT_LIMIT: usize = 16_384;
 
 /// How many bytes are read at a time.
 const PIECE: usize = 4_096;
 
 /// Reads a piece of the input, no more than up to the first byte that is too many. Whether there was any.
 fn read_piece<L: Link>(link: &mut L, input: &mut Octets) -> Result<bool, Failure>
-    requires { length input.old ≤ 16384 }
+    requires { length input.old ≤ INPUT_LIMIT }
     ensures piece { ReadsPiece (L.left link.old) (L.left link.new) input.old input.new result }
     ensures written { L.written link.new ≡ L.written link.old }
     ensures write_faults { L.write_faults link.new ≡ L.write_faults link.old }
@@ -33,7 +34,7 @@ fn read_piece<L: Link>(link: &mut L, input: &mut Octets) -> Result<bool, Failure
     Ok(count > 0)
 }
 
-/// Reads the input to its end. `TooLong` comes where it has more than 16,384 bytes, of which no more than one is read.
+/// Reads the input to its end. `TooLong` comes where it has more bytes than `INPUT_LIMIT`, of which no more than one is read.
 pub(crate) fn read_input<L: Link>(alloc: Global, link: &mut L) -> Result<Octets, Failure>
     ensures input { ReadsInput (L.left link.old) (L.left link.new) result }
     ensures written { L.written link.new ≡ L.written link.old }

@@ -10,11 +10,9 @@ use auth_decide::Site;
 use auth_grammar::Octets;
 use auth_io::{FileAnswer, Files};
 use cred_store::Store;
+use origin_core::FILE_LIMIT;
 use spaces_map::Spaces;
 use std::alloc::Global;
-
-/// How many bytes a file may have.
-const FILE_LIMIT: u64 = 16_777_216;
 
 /// The text in an answer, or why there is none.
 fn text_in(absent: Refusal, answer: FileAnswer) -> Result<Octets, Failure>

@@ -10,11 +10,7 @@ use crate::drill_plan::DrillPlan;
 use crate::numbers::number_in;
 use auth_grammar::behind;
 use drill::MOST_STEPS;
-
-/// How many iterations an option may say.
-const ROUNDS_LEAST: u64 = 4_096;
-
-const ROUNDS_MOST: u64 = 1_000_000;
+use scram_proof::{LEAST_ITERATIONS, MOST_ITERATIONS};
 
 /// What the words ask for, the command's name first. An option stands at any place behind it, and only once.
 pub(crate) fn asked_for(words: &[String]) -> Command<'_>
@@ -184,7 +180,12 @@ fn rounds_in(option: &[u8]) -> Option<u32>
     ensures count { result ≡ rounds_in option.now }
     ensures some { IfSome result (λ rounds. 1 ≤ rounds) }
 {
-    match option_number(b"--rounds=", ROUNDS_LEAST, ROUNDS_MOST, option) {
+    match option_number(
+        b"--rounds=",
+        u64::from(LEAST_ITERATIONS),
+        u64::from(MOST_ITERATIONS),
+        option,
+    ) {
         Some(rounds) => Some(rounds as u32),
         None => None,
     }

@@ -6,6 +6,7 @@ use Rattle.std.specs.Str.Parse.{digits_value}
 use Rattle.auth_grammar.specs.Names.{params_of, same_name, value_of}
 use Rattle.auth_grammar.specs.declared.items.Item.{Item}
 use Rattle.auth_grammar.specs.declared.items.Param.{Param}
+use Rattle.scram_proof.specs.declared.keys.TheConstants.{LEAST_ITERATIONS, MOST_ITERATIONS}
 use Rattle.scram_proof.specs.Exchange.{signature_of}
 use Rattle.scram_proof.specs.Keys.{salted_password, server_key}
 use Rattle.scram_text.specs.Bytes.{is_symbol}
@@ -56,7 +57,7 @@ reuse_of moment params = reuse_in moment (value_of (codes "sr") params) (value_o
 abbrev pub follows : List ℕ → ServerFirst → Bool
 follows nonce message =
     (nat_lt (length nonce) (length message.nonce) && starts_with nat_eq message.nonce nonce)
-    && (nat_le 4096 message.i && nat_le message.i 1000000)
+    && (nat_le LEAST_ITERATIONS message.i && nat_le message.i MOST_ITERATIONS)
 
 abbrev pub exchange_of : User → First → List ℕ → ServerFirst → Exchange
 exchange_of user first sid message = record {

@@ -13,15 +13,9 @@ use crate::hearing::{Heard, continued};
 use crate::outcome::Outcome;
 use crate::state::{Change, Exchange, First, Progress, Reuse, State, User};
 use auth_grammar::{Item, ItemList, Octets, OutOfMemory, Param, same_name, value_of};
-use scram_proof::{salted, server_key, server_signature};
+use scram_proof::{LEAST_ITERATIONS, MOST_ITERATIONS, salted, server_key, server_signature};
 use scram_text::{ClientFinal, Flag, ServerFinal, ServerFirst};
 use std::alloc::Global;
-
-/// The fewest iterations that a client makes.
-const FEWEST: u32 = 4_096;
-
-/// The most.
-const MOST: u32 = 1_000_000;
 
 /// The most seconds that nine digits write.
 const LONGEST: u64 = 999_999_999;
@@ -56,8 +50,8 @@ fn follows(nonce: &[u8], message: &ServerFirst) -> bool
 {
     nonce.len() < message.nonce.len()
         && message.nonce.bytes().starts_with(nonce)
-        && FEWEST <= message.i
-        && message.i <= MOST
+        && LEAST_ITERATIONS <= message.i
+        && message.i <= MOST_ITERATIONS
 }
 
 /// The exchange that the server's first message goes on with.

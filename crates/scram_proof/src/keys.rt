@@ -7,6 +7,12 @@ use auth_hash::{Mac, hi};
 use sha2::{Digest, Sha256};
 use std::fmt;
 
+/// The fewest iterations that a client makes, and that a secret is made with here (RFC 7677 section 4).
+pub const LEAST_ITERATIONS: u32 = 4_096;
+
+/// The most iterations that a client makes, and that a secret is made with here.
+pub const MOST_ITERATIONS: u32 = 1_000_000;
+
 /// The most bytes of a salt.
 pub const SALT_LIMIT: usize = 32;
 

@@ -9,4 +9,7 @@ mod keys;
 mod tests;
 
 pub use exchange::{client_proof, proof_matches, server_signature};
-pub use keys::{SALT_LIMIT, ScramKeys, keys_of, salted, server_key, stored_key};
+pub use keys::{
+    LEAST_ITERATIONS, MOST_ITERATIONS, SALT_LIMIT, ScramKeys, keys_of, salted, server_key,
+    stored_key,
+};
