@@ -42,6 +42,36 @@ def instructions_of(do, words):
         return int(found.group(1)) if found else None
 
 
+def functions_of(do):
+    """The instructions of each function itself, in a program that is run by this with words before its own."""
+    with tempfile.TemporaryDirectory() as folder:
+        out = pathlib.Path(folder) / "out"
+        do(["valgrind", "--tool=callgrind", f"--callgrind-out-file={out}", f"--log-file={folder}/log"])
+        return read_callgrind(out.read_text().splitlines())
+
+
+def read_callgrind(lines):
+    """The own costs in the text that callgrind writes. A name is told in full the first time, and then by its number;
+    the line behind `calls=` has what a call took, which isn't the caller's own."""
+    names, costs, name, of_call = {}, {}, None, False
+    for line in lines:
+        found = re.match(r"(c?fn)=\((\d+)\)(?: (.*))?$", line)
+        if found:
+            names[found[2]] = found[3] or names[found[2]]
+            name = names[found[2]] if found[1] == "fn" else name
+        elif line.startswith("calls="):
+            of_call = True
+        elif re.match(r"[-+*\d]", line):
+            if name and not of_call:
+                costs[name] = costs.get(name, 0) + int(line.split()[-1])
+            of_call = False
+    return costs
+
+
+def total_of(costs):
+    return sum(costs.values())
+
+
 def print_row(job, size, time, count, last, said):
     """Prints a row, and answers the size and its cost, which is compared with the last one."""
     cost = count or time
