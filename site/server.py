@@ -1,4 +1,4 @@
-"""`authd listen` over a site, on a free port of the loopback."""
+"""`authd` with a command that listens, on a free port of the loopback."""
 import pathlib
 import re
 import socket
@@ -19,27 +19,32 @@ def free_port():
 
 
 def is_open(port):
-    """Whether somebody listens on the port, by the system's table of sockets."""
-    rows = pathlib.Path("/proc/net/tcp").read_text().splitlines()
-    return any(f"0100007F:{port:04X} 00000000:0000 0A" in row for row in rows)
+    """Whether somebody listens on the port, by the system's tables of sockets."""
+    tables = [pathlib.Path("/proc/net/tcp").read_text(), pathlib.Path("/proc/net/tcp6").read_text()]
+    return any(re.search(rf": [0-9A-F]+:{port:04X} 0+:0000 0A", table) for table in tables)
 
 
-class Server:
-    """The program, for so many workers and connections a worker. It has to end by itself. Its words may stand behind
-    others, as those of valgrind."""
+def listens(port):
+    """Whether somebody listens on the port, after waiting for it."""
+    for _ in range(200):
+        if is_open(port):
+            return True
+        time.sleep(0.1)
+    return False
 
-    def __init__(self, workers, connections, site=SITE, before=()):
+
+class Program:
+    """`authd` with a command that listens over these files, for so many workers and connections a worker. It has to end by
+    itself. Its words may stand behind others, as those of valgrind."""
+
+    def __init__(self, command, files, workers, connections, before=()):
         self.port = free_port()
-        words = ["listen", site / "store.txt", site / "spaces.txt", site / "www", f"127.0.0.1:{self.port}"]
+        words = [command, *files, f"127.0.0.1:{self.port}", str(workers), str(connections)]
         self.program = subprocess.Popen(
-            [*before, PROGRAM, *words, str(workers), str(connections)],
-            stdout=subprocess.PIPE, stderr=subprocess.STDOUT, text=True,
+            [*before, PROGRAM, *words], stdout=subprocess.PIPE, stderr=subprocess.STDOUT, text=True
         )
-        for _ in range(100):
-            if is_open(self.port):
-                return
-            time.sleep(0.1)
-        sys.exit("failed: nobody listens")
+        if not listens(self.port):
+            sys.exit("failed: nobody listens")
 
     def __enter__(self):
         return self
@@ -47,6 +52,22 @@ class Server:
     def __exit__(self, *error):
         if self.program.poll() is None:
             self.program.kill()
+
+    def totals(self):
+        """The numbers that the program tells at its end: calls, issued, admitted, repeated."""
+        said, _ = self.program.communicate(timeout=SECONDS)
+        found = re.fullmatch(r"calls (\d+) issued (\d+) admitted (\d+) repeated (\d+)\n", said)
+        if self.program.returncode or not found:
+            sys.exit(f"failed: status {self.program.returncode}, {said!r}")
+        return tuple(int(it) for it in found.groups())
+
+
+class Server(Program):
+    """`authd listen` over a site."""
+
+    def __init__(self, workers, connections, site=SITE, before=()):
+        files = [site / "store.txt", site / "spaces.txt", site / "www"]
+        super().__init__("listen", files, workers, connections, before)
 
     def url(self):
         return f"http://127.0.0.1:{self.port}{client.TARGET}"
@@ -59,11 +80,3 @@ class Server:
         with self.connect() as connection, connection.makefile("rb") as stream:
             connection.sendall(client.request(line))
             return client.read_reply(stream)[0]
-
-    def totals(self):
-        """The numbers that the program tells at its end: calls, issued, admitted, repeated."""
-        said, _ = self.program.communicate(timeout=SECONDS)
-        found = re.fullmatch(r"calls (\d+) issued (\d+) admitted (\d+) repeated (\d+)\n", said)
-        if self.program.returncode or not found:
-            sys.exit(f"failed: status {self.program.returncode}, {said!r}")
-        return tuple(int(it) for it in found.groups())
