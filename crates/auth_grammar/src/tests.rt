@@ -62,7 +62,8 @@ fn fed(alloc: Global, pieces: &[&[u8]]) -> Result<Octets, Fail> {
     }
 }
 
-/// Each line is a text and what it spells as challenges, as credentials and as parameters alone.
+/// Each line is a text and what it spells as challenges, as credentials and as parameters alone. The last ones have so
+/// many parameters that their names are compared through a set.
 const ROWS: &[u8] = b"\
 ||not 0|\n\
 ,||not 1|\n\
@@ -103,7 +104,10 @@ SCRAM-SHA-256 data=YWJj/w==|SCRAM-SHA-256 data=\"YWJj/w==\"|SCRAM-SHA-256 data=\
 qop=auth, ,nc=00000001|not 3|not 3|qop=\"auth\", nc=\"00000001\"\n\
 a b=c, B = d|twice 7 B|twice 7 B|not 2\n\
 a b=c, a b=d|a b=\"c\", a b=\"d\"|not 9|not 2\n\
-a b=c, b=d, =|not 12|not 12|not 2";
+a b=c, b=d, =|not 12|not 12|not 2\n\
+s a=1, b=1, c=1, d=1, e=1, f=1, g=1, h=1, i=1, j=1, k=1, l=1, m=1, n=1, o=1, p=1, q=1, r=1|s a=\"1\", b=\"1\", c=\"1\", d=\"1\", e=\"1\", f=\"1\", g=\"1\", h=\"1\", i=\"1\", j=\"1\", k=\"1\", l=\"1\", m=\"1\", n=\"1\", o=\"1\", p=\"1\", q=\"1\", r=\"1\"|s a=\"1\", b=\"1\", c=\"1\", d=\"1\", e=\"1\", f=\"1\", g=\"1\", h=\"1\", i=\"1\", j=\"1\", k=\"1\", l=\"1\", m=\"1\", n=\"1\", o=\"1\", p=\"1\", q=\"1\", r=\"1\"|not 2\n\
+s a=1, b=1, c=1, d=1, e=1, f=1, g=1, h=1, i=1, j=1, k=1, l=1, m=1, n=1, o=1, p=1, q=1, r=1, A=2|twice 92 A|twice 92 A|not 2\n\
+a=1, b=1, c=1, d=1, e=1, f=1, g=1, h=1, i=1, j=1, k=1, l=1, m=1, n=1, o=1, p=1, q=1, r=1, A=2|not 1|not 1|twice 90 A";
 
 /// The parts of a row.
 fn columns(row: &[u8]) -> (&[u8], &[u8], &[u8], &[u8]) {

@@ -311,47 +311,80 @@ fn passwd_draws_a_salt_for_keys(rt: HostRuntime) -> Result<(), Fail> {
     Ok(())
 }
 
+/// A text of the store that `switch` and `migrate` find or leave.
+#[derive(Clone, Copy)]
+enum StoreText {
+    Old,
+    Off,
+    On,
+}
+
+impl StoreText {
+    fn bytes(self) -> &'static [u8] {
+        match self {
+            StoreText::Old => old_text(),
+            StoreText::Off => off_text(),
+            StoreText::On => store_text(),
+        }
+    }
+}
+
+/// Words, the store that they find, what is printed, the store that they leave, and how often files are asked for: once
+/// for the store, and once more where it is replaced.
+const SWITCHES: [(&str, StoreText, &[u8], StoreText, usize); 6] = [
+    (
+        "disable s Mufasa testrealm@host.com",
+        StoreText::Old,
+        b"disabled 1\n",
+        StoreText::Off,
+        2,
+    ),
+    (
+        "enable s Mufasa testrealm@host.com",
+        StoreText::Off,
+        b"enabled 1\n",
+        StoreText::On,
+        2,
+    ),
+    (
+        "disable s Nobody testrealm@host.com",
+        StoreText::Old,
+        b"disabled 0\n",
+        StoreText::Old,
+        1,
+    ),
+    (
+        "enable s a:b testrealm@host.com",
+        StoreText::Off,
+        b"enabled 0\n",
+        StoreText::Off,
+        1,
+    ),
+    (
+        "migrate s",
+        StoreText::Old,
+        b"migrated 1\n",
+        StoreText::On,
+        2,
+    ),
+    (
+        "migrate s",
+        StoreText::Off,
+        b"migrated 1\n",
+        StoreText::Off,
+        2,
+    ),
+];
+
 #[test]
 fn a_name_is_switched_off_and_on(rt: HostRuntime) -> Result<(), Fail> {
     let alloc = rt.alloc();
-    // the store is asked for, and replaced where something is to be changed
-    for (words, before, link, after, asked) in [
-        (
-            "disable s Mufasa testrealm@host.com",
-            old_text(),
-            b"disabled 1\n".as_slice(),
-            off_text(),
-            2,
-        ),
-        (
-            "enable s Mufasa testrealm@host.com",
-            off_text(),
-            b"enabled 1\n",
-            store_text(),
-            2,
-        ),
-        (
-            "disable s Nobody testrealm@host.com",
-            old_text(),
-            b"disabled 0\n",
-            old_text(),
-            1,
-        ),
-        (
-            "enable s a:b testrealm@host.com",
-            off_text(),
-            b"enabled 0\n",
-            off_text(),
-            1,
-        ),
-        ("migrate s", old_text(), b"migrated 1\n", store_text(), 2),
-        ("migrate s", off_text(), b"migrated 1\n", off_text(), 2),
-    ] {
-        let switched = ran(alloc, words, b"", &[(b"s", before)], NONE)?;
+    for (words, before, link, after, asked) in SWITCHES {
+        let switched = ran(alloc, words, b"", &[(b"s", before.bytes())], NONE)?;
         check(&rt, &switched, 0, link, b"", words.as_bytes());
         assert_eq!(rt;
             (stored(&switched), switched.asked),
-            (after, asked),
+            (after.bytes(), asked),
             "{words}"
         );
     }
