@@ -16,3 +16,4 @@ pub mod Written
 pub mod RoundTrip
 pub mod Validity
 pub mod Decimals
+pub mod Numerals

@@ -15,3 +15,4 @@ pub mod Walks
 pub mod Feeds
 pub mod Valid
 pub mod Writing
+pub mod Numbers

@@ -1,6 +1,6 @@
 //! Taking texts apart.
-ghost use Rattle.std.specs.Prelude.{◌≡◌, ◌≢◌, ◌∷◌, ◌++◌, ◌==◌, ℕ, List, false, IfSome, IfNone};
-ghost use Rattle.std.specs.List.{list_any};
+ghost use Rattle.std.specs.Prelude.{◌≡◌, ◌≢◌, ◌≤◌, ◌∷◌, ◌++◌, ◌==◌, ℕ, List, false, IfSome, IfNone, length};
+ghost use Rattle.std.specs.List.{after_first, before_first, list_any, position_or_len};
 
 /// What stands behind the prefix, or None where the text doesn't begin with it.
 pub fn behind<'t>(text: &'t [u8], prefix: &[u8]) -> Option<&'t [u8]>
@@ -30,4 +30,30 @@ pub fn cut_at(text: &[u8], byte: u8) -> Option<(&[u8], &[u8])>
         }
     }
     None
+}
+
+/// How many bytes stand before the first such byte.
+pub fn len_before(text: &[u8], byte: u8) -> usize
+    ensures len { result ≡ position_or_len (λ b. b == byte) text.now }
+    ensures bound { result ≤ length text.now }
+{
+    text.iter().take_while(|&&here| here != byte).count()
+}
+
+/// What stands before the first such byte, or all where there is none.
+pub fn before_first(text: &[u8], byte: u8) -> &[u8]
+    ensures { result.now ≡ before_first (λ b. b == byte) text.now }
+{
+    &text[..len_before(text, byte)]
+}
+
+/// What stands behind the first such byte, or nothing where there is none.
+pub fn after_first(text: &[u8], byte: u8) -> &[u8]
+    ensures { result.now ≡ after_first (λ b. b == byte) text.now }
+{
+    let at = len_before(text, byte);
+    if at == text.len() {
+        return &text[at..];
+    }
+    &text[at + 1..]
 }

@@ -30,13 +30,13 @@ mod valid;
 mod walker;
 mod write;
 
-pub use cuts::{before, behind, cut_at};
+pub use cuts::{after_first, before, before_first, behind, cut_at, len_before};
 pub use error::GrammarError;
 pub use feed::ItemFeed;
 pub use grammar::Grammar;
 pub use items::{Item, ItemList, OctetsList, Param, ParamList, Quoting, Rest, Role};
 pub use names::{has_repeat, same_name, value_of};
-pub use numbers::decimal_of;
+pub use numbers::{decimal_of, number_in};
 pub use octets::{Octets, OutOfMemory};
 pub use plain::{NAME_LIMIT, is_plain_name, is_printable};
 pub use read::{read_challenges, read_credentials, read_params};

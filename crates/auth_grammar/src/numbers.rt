@@ -1,5 +1,6 @@
 //! Numbers as text.
-ghost use Rattle.std.specs.Prelude.{◌≡◌, ◌≢◌, ◌<◌, ◌^◌, ℕ, IfSome, IfNone, decimal};
+ghost use Rattle.std.specs.Prelude.{◌≡◌, ◌≢◌, ◌≤◌, ◌<◌, ◌^◌, ℕ, IfSome, IfNone, decimal};
+ghost use Rattle.auth_grammar.specs.Numbers.{is_between, number_in};
 
 use itoa::Buffer;
 use std::str;
@@ -20,4 +21,25 @@ pub fn decimal_of(text: &[u8]) -> Option<u64>
     } else {
         None
     }
+}
+
+/// The number that a text writes in decimal digits, with no sign and no leading zero, where it is from `least` to `most`.
+pub fn number_in(least: u64, most: u64, text: &[u8]) -> Option<u64>
+    ensures number { result ≡ number_in least most text.now }
+    ensures within { IfSome result (λ number. (least ≤ number) × (number ≤ most)) }
+{
+    let Some(number) = decimal_of(text) else {
+        return None;
+    };
+    if is_between(least, most, number) {
+        Some(number)
+    } else {
+        None
+    }
+}
+
+fn is_between(least: u64, most: u64, number: u64) -> bool
+    ensures { result ≡ is_between least most number }
+{
+    least <= number && number <= most
 }

@@ -9,3 +9,4 @@ pub mod Handing
 pub mod Dialling
 pub mod Memory
 pub mod Accepting
+pub mod Addresses

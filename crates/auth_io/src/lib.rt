@@ -7,6 +7,7 @@
 
 mod accept;
 mod adapters;
+mod address;
 mod clock;
 mod dial;
 mod files;
@@ -17,6 +18,7 @@ mod writing;
 
 pub use accept::Accept;
 pub use adapters::{DiskFiles, OsWords, StdLink, SystemClock, TcpAccept, TcpDial, TcpLink};
+pub use address::{is_address, is_host};
 pub use clock::Clock;
 pub use dial::{Dial, DialFault};
 pub use files::{Ending, FileAnswer, Files, Replaced};

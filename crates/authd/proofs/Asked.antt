@@ -5,7 +5,7 @@ use Rattle.std.specs.List.{list_all, starts_with}
 use Rattle.std.proofs.Math.Seq.{drop-append_seam}
 use Rattle.std.proofs.lemmas.Bool.Decides.{Decides-eqb}
 use Rattle.std.proofs.lemmas.Slice.Eq.{starts_is}
-use Rattle.authd.specs.Numbers.{number_in}
+use Rattle.auth_grammar.specs.Numbers.{number_in}
 use Rattle.authd.specs.Options.{asked_of_others, drill_with, is_option, option_number, with_option, with_options, without_option}
 use Rattle.authd.specs.Words.{Usage, command_of, is_word, by_name}
 

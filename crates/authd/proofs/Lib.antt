@@ -1,7 +1,6 @@
 pub mod Asked
 pub mod Crews
 pub mod Cuts
-pub mod Numerals
 pub mod Pieces
 pub mod Printed
 pub mod ProxyStarts

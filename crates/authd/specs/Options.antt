@@ -4,7 +4,7 @@ use Rattle.std.specs.List.{list_all, starts_with}
 use Rattle.std.specs.Option.{option_or}
 use Rattle.drill.specs.declared.drilling.TheConstants.{MOST_STEPS}
 use Rattle.scram_proof.specs.declared.keys.TheConstants.{LEAST_ITERATIONS, MOST_ITERATIONS}
-use Rattle.authd.specs.Numbers.{number_in}
+use Rattle.auth_grammar.specs.Numbers.{number_in}
 use Rattle.authd.specs.Words.{Command, Usage, Drill, Passwd, command_of, is_word}
 
 -- an option begins with `-`

@@ -2,7 +2,8 @@
 use Rattle.std.specs.Prelude.{ℕ, Bool, true, false, ◌==◌, not, bytes_eq, if◌then◌else◌, List, [], ◌∷◌, Option, Some, None, codes}
 use Rattle.std.specs.List.{list_all}
 use Rattle.scram_proof.specs.declared.keys.TheConstants.{LEAST_ITERATIONS}
-use Rattle.authd.specs.Numbers.{is_address, number_in}
+use Rattle.auth_grammar.specs.Numbers.{number_in}
+use Rattle.auth_io.specs.Addresses.{is_address}
 use Rattle.authd.specs.declared.crew.TheConstants.{MOST_WORKERS, MOST_CONNECTIONS}
 
 -- what `listen` asks for: the names of a store and of spaces, the folder of the files, an address, how many workers there are,

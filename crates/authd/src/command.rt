@@ -8,8 +8,9 @@ ghost use Rattle.authd.specs.Words.{by_name, crew_in, check_with, command_of, im
 use crate::account::Account;
 use crate::crew::{Crew, Listening, MOST_CONNECTIONS, MOST_WORKERS, Proxying};
 use crate::drill_plan::DrillPlan;
-use crate::numbers::{is_address, small_number_in};
+use crate::numbers::small_number_in;
 use auth_grammar::{Octets, OutOfMemory};
+use auth_io::is_address;
 use scram_proof::LEAST_ITERATIONS;
 use std::alloc::Global;
 
@@ -199,7 +200,7 @@ fn listen_at<'w>(
     ensures { meaning result
         ≡ listen_at place.entry.store.now place.entry.spaces.now place.entry.root.now address.now workers.now connections.now }
 {
-    if !is_address(address) {
+    if !is_address(address.as_bytes()) {
         return Command::Usage;
     }
     let workers = small_number_in(1, MOST_WORKERS, workers);
@@ -246,7 +247,7 @@ fn proxy_at<'w>(
 ) -> Command<'w>
     ensures { meaning result ≡ proxy_at store.now spaces.now address.now workers.now connections.now }
 {
-    if !is_address(address) {
+    if !is_address(address.as_bytes()) {
         return Command::Usage;
     }
     let workers = small_number_in(1, MOST_WORKERS, workers);

@@ -7,8 +7,7 @@ ghost use Rattle.authd.specs.Options.{asked_for, asked_of_others, drill_of, dril
 use crate::account::Account;
 use crate::command::{Command, command_of, is_word};
 use crate::drill_plan::DrillPlan;
-use crate::numbers::number_in;
-use auth_grammar::behind;
+use auth_grammar::{behind, number_in};
 use drill::MOST_STEPS;
 use scram_proof::{LEAST_ITERATIONS, MOST_ITERATIONS};
 

@@ -1,5 +1,4 @@
 pub mod Accounts
-pub mod Ports
 pub mod Rounds
 pub mod Exchanging
 pub mod Making

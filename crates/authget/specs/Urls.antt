@@ -1,28 +1,10 @@
 -- URLs and authorities (RFC 9110 section 4.2.1).
-use Rattle.std.specs.Prelude.{ℕ, Bool, ◌==◌, ◌&&◌, ◌||◌, not, nat_le, nat_lt, nat_eq, bytes_eq, if◌then◌else◌, List, length, drop, codes, decimal}
-use Rattle.std.specs.List.{after_first, before_first, list_all, list_any, position_or_len, starts_with}
-use Rattle.std.specs.Str.Parse.{digits_value}
-
-abbrev pub is_between : ℕ → ℕ → ℕ → Bool
-is_between least most number = nat_le least number && nat_le number most
+use Rattle.std.specs.Prelude.{ℕ, Bool, ◌==◌, ◌&&◌, not, nat_lt, nat_eq, if◌then◌else◌, List, length, drop, codes}
+use Rattle.std.specs.List.{before_first, list_all, list_any, position_or_len, starts_with}
+use Rattle.auth_grammar.specs.Numbers.{is_between}
+use Rattle.auth_io.specs.Addresses.{is_address, is_host}
 
 -- ---- authorities
-
--- a letter, a digit, `.` or `-`
-abbrev pub is_host_byte : ℕ → Bool
-is_host_byte b = is_between 65 90 b || is_between 97 122 b || is_between 48 57 b || (b == 46) || (b == 45)
-
--- one or more of these
-abbrev pub is_host : List ℕ → Bool
-is_host host = nat_lt 0 (length host) && list_all is_host_byte host
-
--- a number from 1 to 65535 in decimal digits, with no leading zero
-abbrev pub is_port : List ℕ → Bool
-is_port port = let number = digits_value 10 port in bytes_eq (decimal number) port && is_between 1 65535 number
-
--- a host, a colon, and a port
-abbrev pub is_address : List ℕ → Bool
-is_address text = is_host (before_first (λ b. b == 58) text) && is_port (after_first (λ b. b == 58) text)
 
 -- a host, and a port where there is a colon
 abbrev pub is_authority : List ℕ → Bool

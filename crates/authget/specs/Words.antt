@@ -1,7 +1,8 @@
 -- What the words of the command line ask for.
 use Rattle.std.specs.Prelude.{ℕ, Bool, false, ◌==◌, ◌&&◌, not, nat_le, nat_lt, nat_eq, bytes_eq, if◌then◌else◌, List, [], ◌∷◌, length, drop, filter, Option, Some, None, codes}
 use Rattle.std.specs.List.{list_all, starts_with}
-use Rattle.authget.specs.Urls.{authority_of, is_address, is_url}
+use Rattle.auth_io.specs.Addresses.{is_address}
+use Rattle.authget.specs.Urls.{authority_of, is_url}
 use Rattle.authget.specs.declared.plan.Plan.{Plan}
 
 -- an option begins with `-`

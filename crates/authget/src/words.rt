@@ -4,8 +4,9 @@ ghost use Rattle.std.specs.List.{list_all, starts_with};
 ghost use Rattle.authget.specs.Words.{are_urls, asked_for, asked_plainly, is_of, is_option, is_plain, proxy_in};
 
 use crate::plan::Plan;
-use crate::urls::{authority_of, is_address, is_url};
+use crate::urls::{authority_of, is_url};
 use auth_grammar::{Octets, OctetsList, OutOfMemory};
+use auth_io::is_address;
 use std::alloc::Global;
 
 /// The most URLs that are fetched.

@@ -1,25 +1,11 @@
 //! The targets that a proxy serves.
-ghost use Rattle.std.specs.Prelude.{◌≡◌, ◌≤◌, ◌==◌, length, option_copied};
-ghost use Rattle.std.specs.List.{before_first, position_or_len};
+ghost use Rattle.std.specs.Prelude.{◌≡◌, option_copied};
 ghost use Rattle.proxy_core.specs.Targets.{authority_of, unless_empty};
 
-use auth_grammar::same_name;
+use auth_grammar::{before_first, same_name};
 
 /// What begins a target for a proxy (RFC 9112 section 3.2.2).
 const SCHEME: &[u8] = b"http://";
-
-/// The place of the first slash, or the text's length where there is none.
-fn slash_or_len(text: &[u8]) -> usize
-    ensures place { result ≡ position_or_len (λ b. b == 47) text.now }
-    ensures within { result ≤ length text.now }
-{
-    for (at, here) in text.iter().enumerate() {
-        if *here == b'/' {
-            return at;
-        }
-    }
-    text.len()
-}
 
 fn unless_empty(text: &[u8]) -> Option<&[u8]>
     ensures { option_copied result ≡ unless_empty text.now }
@@ -42,5 +28,5 @@ pub fn authority_of(target: &[u8]) -> Option<&[u8]>
         return None;
     }
     let rest = &target[SCHEME.len()..];
-    unless_empty(&rest[..slash_or_len(rest)])
+    unless_empty(before_first(rest, b'/'))
 }

@@ -1,4 +1,4 @@
--- Reading numbers and addresses.
+-- Reading numbers.
 use Rattle.std.proofs.Common.{◌≡◌, ◌≢◌, ◌<◌, ◌^◌, ◌==◌, ◌&&◌, ◌∷◌, [], ℕ, List, Bool, true, false, refl, sym, ap, ◌∙◌, inl, inr, ◌⊎◌, arith}
 use Rattle.std.specs.Prelude.{Some, None, decimal, bytes_eq, nat_le, if◌then◌else◌}
 use Rattle.std.specs.Str.Parse.{digits_value}
@@ -6,7 +6,7 @@ use Rattle.std.proofs.lemmas.Bool.{leb-true, and_parts, both_ways}
 use Rattle.std.proofs.lemmas.Bool.Decides.{Decides-eqb}
 use Rattle.std.proofs.lemmas.Cmp.{nat_list_eq_equiv}
 use Rattle.std.proofs.lemmas.Fmt.{decimal_is_IsNumeral}
-use Rattle.authd.specs.Numbers.{is_between, number_in}
+use Rattle.auth_grammar.specs.Numbers.{is_between, number_in}
 
 -- a decimal text is read as its number
 pub read_number : (least most number : ℕ) (word : List ℕ) → number < 2 ^ 64 → word ≡ decimal number
