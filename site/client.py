@@ -10,18 +10,18 @@ def sha256(text):
     return hashlib.sha256(text.encode()).hexdigest()
 
 
-def request(line=""):
-    """A request for a file, with one more line."""
-    return f"GET {TARGET} HTTP/1.1\r\nHost: example.org\r\n{line}\r\n".encode()
+def request(line="", method="GET", target=TARGET):
+    """The head of a request, with one more line."""
+    return f"{method} {target} HTTP/1.1\r\nHost: example.org\r\n{line}\r\n".encode()
 
 
-def credentials(nonce, count):
+def credentials(nonce, count, method="GET", target=TARGET):
     """The line of a request that answers the nonce, with the response of RFC 7616 section 3.4.1."""
     secret = sha256(f"{NAME}:{REALM}:{PASSWORD}")
-    action = sha256(f"GET:{TARGET}")
+    action = sha256(f"{method}:{target}")
     response = sha256(f"{secret}:{nonce}:{count:08x}:{CNONCE}:auth:{action}")
     return (
-        f'Authorization: Digest username="{NAME}", realm="{REALM}", uri="{TARGET}", algorithm=SHA-256, '
+        f'Authorization: Digest username="{NAME}", realm="{REALM}", uri="{target}", algorithm=SHA-256, '
         f'nonce="{nonce}", nc={count:08x}, cnonce="{CNONCE}", qop=auth, response="{response}"\r\n'
     )
 

@@ -37,10 +37,21 @@ impl<'r, R> TcpDial<'r, R> {
     }
 }
 
+/// The port that digits spell, and the usual one where there are none (RFC 3986 section 3.2.3).
+fn port_of(digits: &str) -> Option<u16> {
+    if digits.is_empty() {
+        return Some(DEFAULT_PORT);
+    }
+    if !digits.as_bytes().iter().all(|byte| byte.is_ascii_digit()) {
+        return None;
+    }
+    digits.parse().ok()
+}
+
 /// The addresses of an authority.
 fn addresses_of<R: Net>(net: &R, authority: &str) -> Option<HostAddrs> {
     match authority.rsplit_once(':') {
-        Some((host, port)) => (host, port.parse::<u16>().ok()?).to_socket_addrs(net).ok(),
+        Some((host, port)) => (host, port_of(port)?).to_socket_addrs(net).ok(),
         None => (authority, DEFAULT_PORT).to_socket_addrs(net).ok(),
     }
 }

@@ -5,21 +5,21 @@ use crate::adapters::counts::read_again;
 use crate::files::{FileAnswer, Files, Replaced};
 use auth_grammar::Octets;
 use std::alloc::{AllocError, Global};
-use std::fs::{File, OpenFile};
+use std::fs::{File, OpenFile, Permissions};
 use std::io::{ErrorKind, Read, Write};
 use std::rt::Files as FileSystem;
 
 /// A file shorter than so many bytes is read whole at once.
 const SHORT_BYTES: usize = 512;
 
-/// How many names for a new file beside the old one are tried.
-const SPARE_NAMES: u32 = 64;
+/// How many names for a new file beside the old one are tried, more than there are workers that write at one time.
+const SPARE_NAMES: u32 = 1_024;
 
 /// The files of the system's file system. A name is a path, as UTF-8.
 ///
 /// Reading answers Absent for a path that isn't there, is a folder, leads below a file, or is one that the system
-/// refuses as a name. Replacing writes a new file beside the old one, syncs it, and renames it, so after a crash
-/// the name has the old bytes or the new ones.
+/// refuses as a name. Replacing writes a new file beside the old one, with the old one's mode, syncs it, and renames it,
+/// so after a crash the name has the old bytes or the new ones. A link is replaced itself, and not what it leads to.
 #[derive(Drop)]
 pub struct DiskFiles<'r, R> {
     system: &'r R,
@@ -154,9 +154,20 @@ fn read_file<R: FileSystem>(
     read_behind(alloc, &front, file, expected, limit)
 }
 
-/// A name beside the given one.
+/// A name in the folder of the given one, with a byte that no path of a request may have.
 fn spare_name(alloc: Global, path: &str, number: u32) -> Result<String, AllocError> {
-    format!(in alloc; "{path}.new{number}")
+    match path.rsplit_once('/') {
+        Some((folder, _)) => format!(in alloc; "{folder}/%{number}.new"),
+        None => format!(in alloc; "%{number}.new"),
+    }
+}
+
+/// Who may read and write the file, where it is there.
+fn permissions_of<R: FileSystem>(system: &R, path: &str) -> Option<Permissions> {
+    match system.metadata(path) {
+        Ok(metadata) => Some(metadata.permissions()),
+        Err(_) => None,
+    }
 }
 
 /// Writes the bytes to a new file beside the given one, and answers its name.
@@ -169,7 +180,7 @@ fn write_beside<R: FileSystem>(
     for number in 0..SPARE_NAMES {
         let spare = spare_name(alloc, path, number)?;
         match File::create_new(system, spare.as_str()) {
-            Ok(file) => return filled(system, file, spare, bytes),
+            Ok(file) => return filled(system, file, spare, permissions_of(system, path), bytes),
             Err(error) if error.kind() == ErrorKind::AlreadyExists => {}
             Err(error) => return Err(Cause::from(error)),
         }
@@ -182,9 +193,10 @@ fn filled<R: FileSystem>(
     system: &R,
     file: R::File,
     spare: String,
+    permissions: Option<Permissions>,
     bytes: &[u8],
 ) -> Result<String, Cause> {
-    match fill(file, bytes) {
+    match fill(file, permissions, bytes) {
         Ok(()) => Ok(spare),
         Err(cause) => {
             let _ = system.remove_file(spare.as_str());
@@ -193,8 +205,15 @@ fn filled<R: FileSystem>(
     }
 }
 
-/// Writes all of the bytes and has them kept.
-fn fill<F: Write + OpenFile + Drop>(mut file: F, bytes: &[u8]) -> Result<(), Cause> {
+/// Writes all of the bytes and has them kept, in a file that these may read and write from the first byte on.
+fn fill<F: Write + OpenFile + Drop>(
+    mut file: F,
+    permissions: Option<Permissions>,
+    bytes: &[u8],
+) -> Result<(), Cause> {
+    if let Some(permissions) = permissions {
+        file.set_permissions(permissions)?;
+    }
     file.write_all(bytes)?;
     file.sync_all()?;
     Ok(())
