@@ -5,13 +5,16 @@ ghost use Rattle.auth_io.specs.Handing.{Handed, HandsFirst, HandsOut, IsOut, Sta
 ghost use Rattle.auth_io.specs.Told.{Adds};
 
 use crate::stream::Link;
+use thiserror::Error;
 
 /// Why a dial made no connection.
-#[derive(Clone, Copy, Debug, PartialEq, Eq)]
+#[derive(Clone, Copy, Debug, PartialEq, Eq, Error)]
 pub enum DialFault {
     /// Nobody was reached, and the count of dial faults has risen.
+    #[error("nobody was reached")]
     Failed,
     /// There was no memory for it. Nothing has changed.
+    #[error("out of memory")]
     OutOfMemory,
 }
 

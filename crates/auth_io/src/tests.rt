@@ -1,8 +1,8 @@
 //! What no clause says: which calls the forms in memory fail, and that the adapters reach the real things.
 use crate::{
     Accept, Clock, Dial, DialFault, DiskFiles, FileAnswer, Files, Link, MemClock, MemDial,
-    MemFiles, MemLink, MemWords, OsWords, Replaced, StdLink, SystemClock, TcpAccept, TcpDial,
-    TcpLink, Words, Wrote,
+    MemFiles, MemLink, MemWords, OsWords, Replaced, StdLink, SureLink, SureWords, SystemClock,
+    TcpAccept, TcpDial, TcpLink, Words, Wrote,
 };
 use auth_grammar::Octets;
 use std::alloc::Global;
@@ -59,6 +59,23 @@ fn a_clock_and_words_in_memory_end_with_their_last(rt: HostRuntime) -> Result<()
     assert_eq!(rt; random.draw().ok(), Some([2; 16]));
     assert_eq!(rt; random.draw().ok(), Some([2; 16]));
     assert_eq!(rt; MemClock::new(vec![in alloc]?).now(), 0);
+    Ok(())
+}
+
+#[test]
+fn a_link_and_words_that_never_fail_end_with_their_last(rt: HostRuntime) -> Result<(), Fail> {
+    let alloc = rt.alloc();
+    let left = Octets::of(alloc, b"abc")?;
+    let mut link = SureLink::new(alloc, left, vec![in alloc; 2]?, vec![in alloc; 1]?);
+    check_gives(&rt, &mut link, Some(b"ab".as_slice()));
+    assert_eq!(rt; link.write(b"xy"), Wrote::Taken(1));
+    check_gives(&rt, &mut link, Some(b"c".as_slice()));
+    check_gives(&rt, &mut link, Some(b"".as_slice()));
+    assert_eq!(rt; link.written(), b"x".as_slice());
+    let mut random = SureWords::new(vec![in alloc; [1; 16], [2; 16]]?);
+    assert_eq!(rt; random.draw().ok(), Some([1; 16]));
+    assert_eq!(rt; random.draw().ok(), Some([2; 16]));
+    assert_eq!(rt; random.draw().ok(), Some([2; 16]));
     Ok(())
 }
 

@@ -10,6 +10,7 @@ pub struct SystemClock<'r, R> {
 }
 
 impl<'r, R: std::rt::Clock> SystemClock<'r, R> {
+    /// Over the system's clock, whose moments are seconds since 1970. None was shown.
     pub fn new(system: &'r R) -> SystemClock<'r, R> {
         SystemClock { system, last: 0 }
     }

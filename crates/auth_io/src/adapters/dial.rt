@@ -1,9 +1,10 @@
 //! Connections that are made over TCP.
-ghost use Rattle.std.specs.Prelude.{◌≡◌, IfSome};
+ghost use Rattle.std.specs.Prelude.{◌≡◌, IfOk};
 
 use crate::adapters::tcp::TcpLink;
 use crate::dial::{Dial, DialFault};
 use crate::stream::Link;
+use std::io::{self, ErrorKind};
 use std::net::{HostAddrs, Net, SocketAddr, TcpStream, ToSocketAddrs};
 use std::time::Duration;
 
@@ -25,6 +26,7 @@ pub struct TcpDial<'r, R> {
 }
 
 impl<'r, R> TcpDial<'r, R> {
+    /// Over the system's network. Nothing was dialled.
     pub fn new(net: &'r R) -> TcpDial<'r, R>
         ensures faults { result.faults ≡ 0 }
         ensures link_faults { result.link_faults ≡ 0 }
@@ -37,48 +39,64 @@ impl<'r, R> TcpDial<'r, R> {
     }
 }
 
+/// Why nobody was reached.
+#[derive(Clone, Copy)]
+enum Unreached {
+    Failed,
+    Memory,
+}
+
+impl From<io::Error> for Unreached {
+    fn from(error: io::Error) -> Unreached {
+        match error.kind() {
+            ErrorKind::OutOfMemory => Unreached::Memory,
+            _ => Unreached::Failed,
+        }
+    }
+}
+
 /// The port that digits spell, and the usual one where there are none (RFC 3986 section 3.2.3).
-fn port_of(digits: &str) -> Option<u16> {
+fn port_of(digits: &str) -> Result<u16, Unreached> {
     if digits.is_empty() {
-        return Some(DEFAULT_PORT);
+        return Ok(DEFAULT_PORT);
     }
     if !digits.as_bytes().iter().all(|byte| byte.is_ascii_digit()) {
-        return None;
+        return Err(Unreached::Failed);
     }
-    digits.parse().ok()
+    digits.parse().map_err(|_| Unreached::Failed)
 }
 
 /// The addresses of an authority.
-fn addresses_of<R: Net>(net: &R, authority: &str) -> Option<HostAddrs> {
+fn addresses_of<R: Net>(net: &R, authority: &str) -> Result<HostAddrs, Unreached> {
     match authority.rsplit_once(':') {
-        Some((host, port)) => (host, port_of(port)?).to_socket_addrs(net).ok(),
-        None => (authority, DEFAULT_PORT).to_socket_addrs(net).ok(),
+        Some((host, port)) => Ok((host, port_of(port)?).to_socket_addrs(net)?),
+        None => Ok((authority, DEFAULT_PORT).to_socket_addrs(net)?),
     }
 }
 
-fn connect_to<R: Net>(net: &R, address: &SocketAddr) -> Option<TcpLink<R::Stream>>
-    ensures read_faults { IfSome result (λ link. ⟦<TcpLink<R::Stream> as Link>⟧.read_faults link ≡ 0) }
-    ensures write_faults { IfSome result (λ link. ⟦<TcpLink<R::Stream> as Link>⟧.write_faults link ≡ 0) }
+fn connect_to<R: Net>(net: &R, address: &SocketAddr) -> Result<TcpLink<R::Stream>, Unreached>
+    ensures read_faults { IfOk result (λ link. ⟦<TcpLink<R::Stream> as Link>⟧.read_faults link ≡ 0) }
+    ensures write_faults { IfOk result (λ link. ⟦<TcpLink<R::Stream> as Link>⟧.write_faults link ≡ 0) }
 {
     let limit = Duration::from_secs(CONNECT_SECONDS);
-    match TcpStream::connect_timeout(net, address, limit) {
-        Ok(stream) => TcpLink::new(stream).ok(),
-        Err(_) => None,
-    }
+    let stream = TcpStream::connect_timeout(net, address, limit)?;
+    Ok(TcpLink::new(stream)?)
 }
 
-/// A connection to the first address of this authority that answers, or None.
-fn connect<R: Net>(net: &R, authority: &[u8]) -> Option<TcpLink<R::Stream>>
-    ensures read_faults { IfSome result (λ link. ⟦<TcpLink<R::Stream> as Link>⟧.read_faults link ≡ 0) }
-    ensures write_faults { IfSome result (λ link. ⟦<TcpLink<R::Stream> as Link>⟧.write_faults link ≡ 0) }
+/// A connection to the first address of this authority that answers.
+fn connect<R: Net>(net: &R, authority: &[u8]) -> Result<TcpLink<R::Stream>, Unreached>
+    ensures read_faults { IfOk result (λ link. ⟦<TcpLink<R::Stream> as Link>⟧.read_faults link ≡ 0) }
+    ensures write_faults { IfOk result (λ link. ⟦<TcpLink<R::Stream> as Link>⟧.write_faults link ≡ 0) }
 {
-    let text = str::from_utf8(authority).ok()?;
+    let text = str::from_utf8(authority).map_err(|_| Unreached::Failed)?;
     for address in addresses_of(net, text)?.take(CONNECT_TRIES) {
-        if let Some(link) = connect_to(net, &address) {
-            return Some(link);
+        match connect_to(net, &address) {
+            Ok(link) => return Ok(link),
+            Err(Unreached::Memory) => return Err(Unreached::Memory),
+            Err(Unreached::Failed) => {}
         }
     }
-    None
+    Err(Unreached::Failed)
 }
 
 impl<'r, R: Net> Dial for TcpDial<'r, R> {
@@ -98,8 +116,9 @@ impl<'r, R: Net> Dial for TcpDial<'r, R> {
 
     fn dial(&mut self, authority: &[u8]) -> Result<TcpLink<R::Stream>, DialFault> {
         match connect(self.net, authority) {
-            Some(link) => Ok(link),
-            None => {
+            Ok(link) => Ok(link),
+            Err(Unreached::Memory) => Err(DialFault::OutOfMemory),
+            Err(Unreached::Failed) => {
                 self.faults = self.faults.saturating_add(1);
                 Err(DialFault::Failed)
             }

@@ -5,8 +5,9 @@ use crate::adapters::counts::read_again;
 use crate::files::{FileAnswer, Files, Replaced};
 use auth_grammar::Octets;
 use std::alloc::{AllocError, Global};
-use std::fs::{File, OpenFile, Permissions};
-use std::io::{ErrorKind, Read, Write};
+use std::fs::{File, OpenFile, OpenOptions, Permissions};
+use std::io::{self, ErrorKind, Read, Write};
+use std::os::unix::fs::{OpenOptionsExt, PermissionsExt};
 use std::rt::Files as FileSystem;
 
 /// A file shorter than so many bytes is read whole at once.
@@ -28,6 +29,7 @@ pub struct DiskFiles<'r, R> {
 }
 
 impl<'r, R: FileSystem> DiskFiles<'r, R> {
+    /// Over the system's files. What is read from one takes its memory from `alloc`.
     pub fn new(system: &'r R, alloc: Global) -> DiskFiles<'r, R>
         ensures { ⟦<DiskFiles<'r, R> as Files>⟧.faults result ≡ 0 }
     {
@@ -162,12 +164,22 @@ fn spare_name(alloc: Global, path: &str, number: u32) -> Result<String, AllocErr
     }
 }
 
-/// Who may read and write the file, where it is there.
-fn permissions_of<R: FileSystem>(system: &R, path: &str) -> Option<Permissions> {
+/// Who may read and write the file, where it is there, as the bits of its mode.
+fn mode_of<R: FileSystem>(system: &R, path: &str) -> Option<u32> {
     match system.metadata(path) {
-        Ok(metadata) => Some(metadata.permissions()),
+        Ok(metadata) => Some(metadata.permissions().mode()),
         Err(_) => None,
     }
+}
+
+/// A new file of this name, which nobody can open whom the mode doesn't let.
+fn create_new<R: FileSystem>(system: &R, path: &str, mode: Option<u32>) -> io::Result<R::File> {
+    let mut options = OpenOptions::new();
+    options.write(true).create_new(true);
+    if let Some(mode) = mode {
+        options.mode(mode);
+    }
+    options.open(system, path)
 }
 
 /// Writes the bytes to a new file beside the given one, and answers its name.
@@ -177,10 +189,11 @@ fn write_beside<R: FileSystem>(
     path: &str,
     bytes: &[u8],
 ) -> Result<String, Cause> {
+    let mode = mode_of(system, path);
     for number in 0..SPARE_NAMES {
         let spare = spare_name(alloc, path, number)?;
-        match File::create_new(system, spare.as_str()) {
-            Ok(file) => return filled(system, file, spare, permissions_of(system, path), bytes),
+        match create_new(system, spare.as_str(), mode) {
+            Ok(file) => return filled(system, file, spare, mode, bytes),
             Err(error) if error.kind() == ErrorKind::AlreadyExists => {}
             Err(error) => return Err(Cause::from(error)),
         }
@@ -193,10 +206,10 @@ fn filled<R: FileSystem>(
     system: &R,
     file: R::File,
     spare: String,
-    permissions: Option<Permissions>,
+    mode: Option<u32>,
     bytes: &[u8],
 ) -> Result<String, Cause> {
-    match fill(file, permissions, bytes) {
+    match fill(file, mode, bytes) {
         Ok(()) => Ok(spare),
         Err(cause) => {
             let _ = system.remove_file(spare.as_str());
@@ -205,14 +218,15 @@ fn filled<R: FileSystem>(
     }
 }
 
-/// Writes all of the bytes and has them kept, in a file that these may read and write from the first byte on.
+/// Writes all of the bytes and has them kept, in a file that has this mode from the first byte on. A new file has lost the
+/// bits that the process' own mask takes, so they are given back.
 fn fill<F: Write + OpenFile + Drop>(
     mut file: F,
-    permissions: Option<Permissions>,
+    mode: Option<u32>,
     bytes: &[u8],
 ) -> Result<(), Cause> {
-    if let Some(permissions) = permissions {
-        file.set_permissions(permissions)?;
+    if let Some(mode) = mode {
+        file.set_permissions(Permissions::from_mode(mode))?;
     }
     file.write_all(bytes)?;
     file.sync_all()?;

@@ -17,6 +17,7 @@ pub struct StdLink<R, W> {
 }
 
 impl<R: Read, W: Write> StdLink<R, W> {
+    /// It gives what `reader` gives, and what it takes goes to `writer`.
     pub fn new(reader: R, writer: W) -> StdLink<R, W>
         ensures given { ⟦<StdLink<R, W> as Link>⟧.given result ≡ 0 }
         ensures read_faults { ⟦<StdLink<R, W> as Link>⟧.read_faults result ≡ 0 }

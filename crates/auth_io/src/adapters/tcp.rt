@@ -127,6 +127,7 @@ pub struct TcpAccept<'l, L> {
 }
 
 impl<'l, L> TcpAccept<'l, L> {
+    /// Over a socket that listens already.
     pub fn new(listener: &'l L) -> TcpAccept<'l, L>
         ensures faults { result.faults ≡ 0 }
         ensures link_faults { result.link_faults ≡ 0 }

@@ -13,6 +13,7 @@ pub struct OsWords<'r, R> {
 }
 
 impl<'r, R: RandomSource> OsWords<'r, R> {
+    /// Over the system's source, of which nothing was drawn.
     pub fn new(system: &'r R) -> OsWords<'r, R>
         ensures { ⟦<OsWords<'r, R> as Words>⟧.faults result ≡ 0 }
     {

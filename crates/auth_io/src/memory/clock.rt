@@ -12,6 +12,7 @@ pub struct MemClock {
 }
 
 impl MemClock {
+    /// Each call shows one of `moments`, from the first.
     pub fn new(moments: Vec<u64>) -> MemClock
         ensures shown { ⟦<MemClock as Clock>⟧.shown result ≡ Some [] }
         ensures coming { ⟦<MemClock as Clock>⟧.coming result ≡ Some moments.items }

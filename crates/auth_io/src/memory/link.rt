@@ -26,7 +26,9 @@ impl MemLink {
     ghost use Rattle.auth_io.specs.Handing.{has_fault};
     ghost use Rattle.auth_io.specs.Memory.{IsUnused, read_plan, read_room, write_plan};
 
-    /// `room` is the number of reads that may answer; a read past it fails.
+    /// It gives `left`. `pieces` and `takes` have the most bytes that each read gives and that each write takes, where a 0
+    /// counts as 1; past the end of a list there is no limit. `failing_reads` and `failing_writes` have the numbers of the
+    /// calls that are to fail, counted from 1. `room` is the number of reads that may answer; a read past it fails.
     pub fn new(
         alloc: Global,
         left: Octets,
@@ -171,6 +173,8 @@ pub struct SureLink {
 impl SureLink {
     ghost use Rattle.auth_io.specs.Memory.{sure_read_plan, sure_write_plan};
 
+    /// It gives `left`. `pieces` and `takes` have the most bytes that each read gives and that each write takes, where a 0
+    /// counts as 1; past the end of a list there is no limit.
     pub fn new(alloc: Global, left: Octets, pieces: Vec<u32>, takes: Vec<u32>) -> SureLink
         ensures left { ⟦<SureLink as Link>⟧.left result ≡ Some left }
         ensures written { ⟦<SureLink as Link>⟧.written result ≡ Some [] }

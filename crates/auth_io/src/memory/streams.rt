@@ -18,6 +18,8 @@ pub struct MemSource {
 impl MemSource {
     ghost use Rattle.auth_io.specs.Memory.{source_plan};
 
+    /// It gives `left`. `pieces` has the most bytes that each read gives, where a 0 counts as 1; past its end there is no
+    /// limit. `failing` has the numbers of the reads that are to fail, counted from 1.
     pub fn new(left: Octets, pieces: Vec<u32>, failing: Vec<u32>) -> MemSource
         ensures left { ⟦<MemSource as Source>⟧.left result ≡ Some left }
         ensures given { ⟦<MemSource as Source>⟧.given result ≡ 0 }
@@ -79,6 +81,8 @@ pub struct MemSink {
 impl MemSink {
     ghost use Rattle.auth_io.specs.Memory.{sink_plan};
 
+    /// `takes` has the most bytes that each write takes, where a 0 counts as 1; past its end there is no limit. `failing`
+    /// has the numbers of the writes that are to fail, counted from 1.
     pub fn new(alloc: Global, takes: Vec<u32>, failing: Vec<u32>) -> MemSink
         ensures written { ⟦<MemSink as Sink>⟧.written result ≡ Some [] }
         ensures faults { ⟦<MemSink as Sink>⟧.faults result ≡ 0 }

@@ -18,6 +18,7 @@ pub struct MemWords {
 impl MemWords {
     ghost use Rattle.auth_io.specs.Memory.{failing_plan, words_plan};
 
+    /// `failing` has the numbers of the calls of `draw` that are to fail, counted from 1.
     pub fn new(words: Vec<[u8; 16]>, failing: Vec<u32>) -> MemWords
         ensures drawn { ⟦<MemWords as Words>⟧.drawn result ≡ Some [] }
         ensures coming { ⟦<MemWords as Words>⟧.coming result ≡ Some words.items }
@@ -75,6 +76,7 @@ pub struct SureWords {
 }
 
 impl SureWords {
+    /// The last ones are given again, and zeros where there are none.
     pub fn new(words: Vec<[u8; 16]>) -> SureWords
         ensures drawn { ⟦<SureWords as Words>⟧.drawn result ≡ Some [] }
         ensures coming { ⟦<SureWords as Words>⟧.coming result ≡ Some words.items }
