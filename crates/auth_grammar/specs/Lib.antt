@@ -16,3 +16,5 @@ pub mod Feeds
 pub mod Valid
 pub mod Writing
 pub mod Numbers
+pub mod Params
+pub mod RoleFields

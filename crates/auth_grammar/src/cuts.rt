@@ -1,6 +1,7 @@
 //! Taking texts apart.
 ghost use Rattle.std.specs.Prelude.{◌≡◌, ◌≢◌, ◌≤◌, ◌∷◌, ◌++◌, ◌==◌, ℕ, List, false, IfSome, IfNone, length};
 ghost use Rattle.std.specs.List.{after_first, before_first, list_any, position_or_len};
+ghost use Rattle.std.specs.Str.Lines.{strip_carriage_return};
 
 /// What stands behind the prefix, or None where the text doesn't begin with it.
 pub fn behind<'t>(text: &'t [u8], prefix: &[u8]) -> Option<&'t [u8]>
@@ -56,4 +57,11 @@ pub fn after_first(text: &[u8], byte: u8) -> &[u8]
         return &text[at..];
     }
     &text[at + 1..]
+}
+
+/// A line without the one CR at its end.
+pub fn without_return(line: &[u8]) -> &[u8]
+    ensures { result.now ≡ strip_carriage_return line.now }
+{
+    line.strip_suffix(b"\r").unwrap_or(line)
 }

@@ -20,6 +20,7 @@ mod position;
 mod read;
 mod reader;
 mod repeats;
+mod role_fields;
 mod round_trip;
 mod runs;
 mod sequence;
@@ -30,7 +31,7 @@ mod valid;
 mod walker;
 mod write;
 
-pub use cuts::{after_first, before, before_first, behind, cut_at, len_before};
+pub use cuts::{after_first, before, before_first, behind, cut_at, len_before, without_return};
 pub use error::GrammarError;
 pub use feed::ItemFeed;
 pub use grammar::Grammar;
@@ -38,7 +39,7 @@ pub use items::{Item, ItemList, OctetsList, Param, ParamList, Quoting, Rest, Rol
 pub use names::{has_repeat, same_name, value_of};
 pub use numbers::{decimal_of, number_in};
 pub use octets::{Octets, OutOfMemory};
-pub use plain::{NAME_LIMIT, is_plain_name, is_printable};
+pub use plain::{NAME_LIMIT, PASSWORD_LIMIT, is_password, is_plain_name, is_printable};
 pub use read::{read_challenges, read_credentials, read_params};
 pub use round_trip::reads_what_is_written;
 pub use sequence::Sequence;

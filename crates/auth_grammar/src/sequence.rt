@@ -77,6 +77,7 @@ impl<T: Drop> Sequence<T> {
         self.items.len()
     }
 
+    /// Whether it has no item.
     pub fn is_empty(&self) -> bool
         ensures { IsTrue result ↔ (self.now ≡ []) }
     {

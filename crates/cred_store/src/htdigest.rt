@@ -1,7 +1,7 @@
 //! Reading texts of htdigest, the program of Apache's HTTP server.
 ghost use Rattle.std.specs.Prelude.{◌≡◌, ◌≢◌, ◌+◌, ◌<◌, ◌≤◌, ◌^◌, ◌++◌, ◌∷◌, [], true, List, IfErr, IfNone, IfOk, IfSome, OnOk, length};
 ghost use Rattle.std.specs.Str.{str_to_ascii_lowercase};
-ghost use Rattle.std.specs.Str.Lines.{lines, strip_carriage_return};
+ghost use Rattle.std.specs.Str.Lines.{lines};
 ghost use Rattle.auth_grammar.specs.Plain.{is_plain_name};
 ghost use Rattle.cred_store.specs.Faults.{colons};
 ghost use Rattle.cred_store.specs.Htdigest.{ArePairs, HasThreeParts, IsPair, IsPairFaulty, PairFault, PairFaultBehind, md5_secret};
@@ -11,7 +11,7 @@ ghost use Rattle.cred_store.specs.declared.entry.Entry.{Entry as EntryValue};
 use crate::entry::{Entry, Secret};
 use crate::error::{LineFault, StoreError};
 use crate::value::digest_of;
-use auth_grammar::{OutOfMemory, Sequence, cut_at, is_plain_name};
+use auth_grammar::{OutOfMemory, Sequence, cut_at, is_plain_name, without_return};
 use auth_hash::Algorithm;
 use std::alloc::Global;
 
@@ -143,15 +143,5 @@ fn first_line(text: &[u8]) -> (&[u8], &[u8])
     match cut_at(text, b'\n') {
         Some((line, rest)) => (without_return(line), rest),
         None => (text, &[]),
-    }
-}
-
-/// A line without the carriage return at its end, if it has one.
-fn without_return(line: &[u8]) -> &[u8]
-    ensures { result.now ≡ strip_carriage_return line.now }
-{
-    match line {
-        [front @ .., b'\r'] => front,
-        _ => line,
     }
 }

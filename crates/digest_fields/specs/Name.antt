@@ -3,6 +3,7 @@ use Rattle.std.specs.Prelude.{ℕ, IsTrue, List, Option, Some, None, Result, Ok,
 use Rattle.std.specs.Option.{ok_or}
 use Rattle.percent_encoding.specs.Percent.{percent_decode}
 use Rattle.auth_grammar.specs.declared.items.Param.{Param}
+use Rattle.auth_grammar.specs.declared.plain.TheConstants.{NAME_LIMIT}
 use Rattle.auth_grammar.specs.Plain.{is_plain_name}
 use Rattle.digest_fields.specs.declared.field.FieldName.{FieldName}
 use Rattle.digest_fields.specs.declared.field.FieldName.TheVariants as field
@@ -18,7 +19,7 @@ IsName name = IsTrue (is_plain_name name)
 -- a name, whose length is looked at first
 unfoldable pub name_from : FieldName → List ℕ → Result (List ℕ) FieldError
 name_from name text = do
-  short ← at_most 64 name text
+  short ← at_most NAME_LIMIT name text
   if is_plain_name short then Ok short else Err (BadValue name)
 
 -- the name of one parameter or of the other

@@ -3,12 +3,13 @@ use Rattle.std.specs.Prelude.{ℕ, List, [], ◌∷◌, codes, Option, Some, Non
 use Rattle.auth_grammar.specs.declared.items.Item.{Item}
 use Rattle.auth_grammar.specs.declared.items.Param.{Param}
 use Rattle.auth_grammar.specs.declared.items.Rest.TheVariants.{Params}
+use Rattle.auth_grammar.specs.Params.{param}
 use Rattle.digest_fields.specs.declared.field.FieldName.{FieldName}
 use Rattle.digest_fields.specs.Field.{field_text}
 
 -- a parameter
 abbrev pub written : FieldName → List ℕ → List Param
-written name value = record { name = field_text name; value = value } ∷ []
+written name value = param (field_text name) value ∷ []
 
 -- a parameter that has a value
 abbrev pub written_some : FieldName → Option (List ℕ) → List Param

@@ -5,11 +5,8 @@ ghost use Rattle.digest_fields.specs.Name.{IsName, name_from, name_of};
 
 use crate::extended::escaped_name;
 use crate::field::{FieldError, FieldName, at_most, given};
-use auth_grammar::{Octets, OutOfMemory, Param, is_plain_name};
+use auth_grammar::{NAME_LIMIT, Octets, OutOfMemory, Param, is_plain_name};
 use std::alloc::Global;
-
-/// How many bytes a name may have.
-const NAME_LIMIT: u32 = 64;
 
 /// The user that credentials name (RFC 7616 section 3.4.4).
 #[derive(Drop, Clone, PartialEq)]
@@ -58,7 +55,7 @@ fn check_name(field: FieldName, name: &[u8]) -> Result<(), FieldError>
         (λ error. name_from field name.now ≡ Err error) }
     ensures form { OnOk result (IsName name.now) }
 {
-    at_most(NAME_LIMIT, field, name)?;
+    at_most(NAME_LIMIT as u32, field, name)?;
     if !is_plain_name(name) {
         return Err(FieldError::BadValue { name: field });
     }

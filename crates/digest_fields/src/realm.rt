@@ -5,10 +5,7 @@ ghost use Rattle.auth_grammar.specs.Plain.{is_printable};
 ghost use Rattle.digest_fields.specs.Realm.{IsRealm, realm_of};
 
 use crate::field::{FieldError, FieldName, at_most, required};
-use auth_grammar::{Param, is_printable};
-
-/// How many bytes a realm may have.
-const REALM_LIMIT: u32 = 64;
+use auth_grammar::{NAME_LIMIT, Param, is_printable};
 
 /// The realm that the parameters say.
 #[tactic(auto, unfolding(crate::specs::Realm::realm_of))]
@@ -19,7 +16,7 @@ pub(crate) fn realm_of(params: &[Param]) -> Result<&[u8], FieldError>
     ensures form { IfOk result (λ realm. IsRealm realm.now) }
 {
     let realm = required(params, FieldName::Realm)?;
-    at_most(REALM_LIMIT, FieldName::Realm, realm)?;
+    at_most(NAME_LIMIT as u32, FieldName::Realm, realm)?;
     if !are_printable(realm) {
         return Err(FieldError::BadValue {
             name: FieldName::Realm,

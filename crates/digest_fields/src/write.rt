@@ -15,10 +15,7 @@ pub(crate) fn add(
 ) -> Result<(), OutOfMemory>
     ensures { OnOk result (params.new ≡ params.old ++ written name value.now) }
 {
-    params.push(Param {
-        name: Octets::of(alloc, name.text())?,
-        value: Octets::of(alloc, value)?,
-    })
+    params.push(Param::of(alloc, name.text(), value)?)
 }
 
 /// Adds a parameter that has a value.

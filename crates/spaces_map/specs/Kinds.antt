@@ -1,5 +1,6 @@
 -- How a text of spaces names what a space offers.
 use Rattle.std.specs.Prelude.{◌≡◌, ◌<◌, ℕ, Bool, true, false, ◌&&◌, not, List, [], ◌++◌, length, map, codes}
+use Rattle.std.specs.Bool.{beq}
 use Rattle.std.specs.List.{join_with_byte, list_any}
 use Rattle.auth_hash.specs.Algorithm.{algorithm_name, same_algorithm}
 use Rattle.spaces_map.specs.Follows.{EachFits}
@@ -25,13 +26,9 @@ offer_text offer = (kind_name offer.kind ++ flag_text (codes "+int") offer.auth_
 abbrev pub kinds_text : List Offer → List ℕ
 kinds_text offers = join_with_byte 44 (map offer_text offers)
 
-abbrev pub same_flag : Bool → Bool → Bool
-same_flag true b = b
-same_flag false b = not b
-
 -- whether two kinds are one
 abbrev pub same_kind : OfferKind → OfferKind → Bool
-same_kind (Digest a s) (Digest b t) = same_algorithm a b && same_flag s t
+same_kind (Digest a s) (Digest b t) = same_algorithm a b && beq s t
 same_kind ScramSha256 ScramSha256 = true
 same_kind (Digest a s) ScramSha256 = false
 same_kind ScramSha256 (Digest b t) = false

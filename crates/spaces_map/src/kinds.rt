@@ -1,6 +1,6 @@
 //! Reading what a space offers.
 ghost use Rattle.std.specs.Prelude.{◌≡◌, ◌≢◌, ◌++◌, ℕ, List, IfOk, IfSome, IfNone, false};
-ghost use Rattle.spaces_map.specs.Kinds.{IsOffers, IsOther, flag_text, has_kind, kind_name, kinds_text, offer_text, same_flag, same_kind, takes_flags};
+ghost use Rattle.spaces_map.specs.Kinds.{IsOffers, IsOther, flag_text, has_kind, kind_name, kinds_text, offer_text, same_kind, takes_flags};
 ghost use Rattle.spaces_map.specs.declared.space.Offer.{Offer as OfferValue};
 ghost use Rattle.spaces_map.specs.declared.space.OfferKind.{OfferKind as OfferKindValue};
 
@@ -52,12 +52,6 @@ fn offer_in(part: &[u8]) -> Option<Offer>
     })
 }
 
-fn same_flag(a: bool, b: bool) -> bool
-    ensures { result ≡ same_flag a b }
-{
-    if a { b } else { !b }
-}
-
 fn same_kind(a: OfferKind, b: OfferKind) -> bool
     ensures { result ≡ same_kind a b }
 {
@@ -68,7 +62,7 @@ fn same_kind(a: OfferKind, b: OfferKind) -> bool
                 alg: other,
                 session: by_session,
             },
-        ) => { alg.is(other) && same_flag(session, by_session) }
+        ) => { alg.is(other) && session == by_session }
         (OfferKind::ScramSha256, OfferKind::ScramSha256) => true,
         _ => false,
     }
