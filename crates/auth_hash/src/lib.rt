@@ -9,9 +9,11 @@ mod hasher;
 mod hex_text;
 mod mac;
 mod salting;
+mod same;
 
 pub use algorithm::{Algorithm, Qop};
 pub use hasher::{Hasher, hash_joined};
 pub use hex_text::HexText;
 pub use mac::Mac;
 pub use salting::{hi, xor32};
+pub use same::same_bytes;

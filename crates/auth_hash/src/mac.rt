@@ -101,3 +101,45 @@ fn hash_of_padded(block: &[u8; MAC_BLOCK], pad: u8) -> Sha256
     }
     Sha256::new_with_prefix(&padded)
 }
+
+#[cfg(test)]
+mod tests {
+    use super::*;
+    use std::test::Fail;
+
+    /// Keys, messages and their codes in hexadecimal: RFC 4231 section 4, the first four.
+    const CODES: [(&[u8], &[u8], &str); 4] = [
+        (
+            &[0x0b; 20],
+            b"Hi There",
+            "b0344c61d8db38535ca8afceaf0bf12b881dc200c9833da726e9376c2e32cff7",
+        ),
+        (
+            b"Jefe",
+            b"what do ya want for nothing?",
+            "5bdcc146bf60754e6a042426089575c75a003f089d2739839dec58b964ec3843",
+        ),
+        (
+            &[0xaa; 20],
+            &[0xdd; 50],
+            "773ea91e36800e46854db8ebd09181a72959098b3ef8c122d9635514ced565fe",
+        ),
+        (
+            &[
+                1, 2, 3, 4, 5, 6, 7, 8, 9, 10, 11, 12, 13, 14, 15, 16, 17, 18, 19, 20, 21, 22, 23,
+                24, 25,
+            ],
+            &[0xcd; 50],
+            "82558a389a443c0ea4cc819899f2083a85f0faa3e578f8077a2e3ff46729665b",
+        ),
+    ];
+
+    #[test]
+    fn known_codes(rt: HostRuntime) -> Result<(), Fail> {
+        for (key, message, code) in CODES {
+            let text = hex::encode(rt.alloc(), &Mac::new(key).of(message))?;
+            assert_eq!(rt; text.as_str(), code);
+        }
+        Ok(())
+    }
+}

@@ -14,7 +14,7 @@ pub use secrets::{ha1, session_ha1, user_hash};
 #[cfg(test)]
 mod tests {
     use super::*;
-    use auth_hash::{Algorithm, Qop};
+    use auth_hash::{Algorithm, Qop, hash_joined};
 
     const NONCE: &[u8] = b"7ypf/xlj9XXwfDPEoM4URrv/xwf94BcCAzFZH4GiTo0v";
 
@@ -69,6 +69,11 @@ mod tests {
         assert_eq!(rt;
             secret.bytes(),
             b"939e7578ed9e3c518a452acee763bce9".as_slice()
+        );
+        let action = hash_joined(Algorithm::Md5, &[b"GET", URI]);
+        assert_eq!(rt;
+            action.bytes(),
+            b"39aff3a2bab6126f332b942af96d3366".as_slice()
         );
         let value = response(
             Algorithm::Md5,

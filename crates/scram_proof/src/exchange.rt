@@ -4,7 +4,7 @@ ghost use Rattle.auth_hash.specs.Mac.{hmac};
 ghost use Rattle.scram_proof.specs.Exchange.{Matches, auth_message, proof_of, signature_of};
 
 use crate::keys::{client_key, stored_key};
-use auth_hash::{Mac, xor32};
+use auth_hash::{Mac, same_bytes, xor32};
 use sha2::{Digest, Sha256};
 
 /// ClientProof, by SaltedPassword and the three texts of the exchange: client-first-message-bare, server-first-message
@@ -27,7 +27,7 @@ pub fn proof_matches(
     ensures { IsTrue result ↔ Matches stored.now (auth_message bare.now first.now without.now) proof.now }
 {
     let key = xor32(proof, &code_of(stored, bare, first, without));
-    Sha256::digest(&key) == *stored
+    same_bytes(&Sha256::digest(&key), stored)
 }
 
 /// ServerSignature, by ServerKey and the three texts of the exchange.
