@@ -28,6 +28,22 @@ pub struct Exchange {
     pub bare: ArrayVec<u8, 512>,
 }
 
+impl Exchange {
+    ghost use Rattle.std.specs.Prelude.{◌≡◌};
+
+    /// A copy, which takes no memory.
+    pub fn copy(&self) -> Exchange
+        ensures { result ≡ self.now }
+    {
+        let mut bare = ArrayVec::new();
+        let _ = bare.try_extend_from_slice(self.bare.as_slice());
+        Exchange {
+            flag: self.flag,
+            bare,
+        }
+    }
+}
+
 /// What is asked of a shard. `space` is the number of a protection space, and `random` the 16
 /// random bytes of the new name.
 #[derive(Clone, Debug, Drop, PartialEq, Eq)]

@@ -2,8 +2,7 @@
 ghost use Rattle.std.specs.Prelude.{◌≡◌};
 ghost use Rattle.std.specs.Option.{option_copied};
 
-use crate::calls::{Call, Exchange, Prime, What};
-use arrayvec::ArrayVec;
+use crate::calls::{Call, Prime, What};
 
 pub fn copy_prime(prime: &Prime) -> Prime
     ensures { result ≡ prime.now }
@@ -19,17 +18,6 @@ pub fn copy_optional_prime(prime: &Option<Prime>) -> Option<Prime>
     match prime {
         Some(prime) => Some(copy_prime(prime)),
         None => None,
-    }
-}
-
-pub fn copy_exchange(exchange: &Exchange) -> Exchange
-    ensures { result ≡ exchange.now }
-{
-    let mut bare = ArrayVec::new();
-    let _ = bare.try_extend_from_slice(exchange.bare.as_slice());
-    Exchange {
-        flag: exchange.flag,
-        bare,
     }
 }
 
@@ -76,7 +64,7 @@ fn copy_what(what: &What) -> What
         } => What::Open {
             space,
             random,
-            exchange: copy_exchange(exchange),
+            exchange: exchange.copy(),
         },
         What::Take { sid, space } => What::Take { sid, space },
         What::Keep { sid, space } => What::Keep { sid, space },

@@ -3,7 +3,6 @@ ghost use Rattle.std.specs.Prelude.{◌≡◌};
 ghost use Rattle.nonce_shard.specs.Exchanges.{names_exchange, take_reply, keep_reply, recall_reply};
 
 use crate::calls::{Exchange, Reply};
-use crate::copies::copy_exchange;
 use crate::names::{NameKind, TableName};
 use crate::sizes::Sizes;
 
@@ -43,7 +42,7 @@ pub fn reply_to_take(sizes: &Sizes, now: u64, opening: &Opening, progress: Progr
 {
     match progress {
         Progress::Untried if now.saturating_sub(opening.time) <= sizes.open_life => Reply::Taken {
-            exchange: copy_exchange(&opening.exchange),
+            exchange: opening.exchange.copy(),
         },
         _ => Reply::Gone,
     }
@@ -66,7 +65,7 @@ pub fn reply_to_recall(sizes: &Sizes, now: u64, opening: &Opening, progress: Pro
     match progress {
         Progress::Finished { time } if now.saturating_sub(time) <= sizes.finished_life => {
             Reply::Session {
-                exchange: copy_exchange(&opening.exchange),
+                exchange: opening.exchange.copy(),
             }
         }
         _ => Reply::Gone,

@@ -12,7 +12,6 @@ ghost use Rattle.nonce_shard.specs.ExchangeRing.{HoldsExchanges};
 ghost use Rattle.nonce_shard.specs.Shard.{HoldsPast, StandsFor, setting, reply_after, totals_after};
 
 use crate::calls::{Call, Reply, What};
-use crate::copies::copy_exchange;
 use crate::errors::OutOfMemory;
 use crate::exchange_ring::{ExchangeRing, ExchangeSlot};
 use crate::exchanges::Opening;
@@ -126,7 +125,7 @@ impl Shard {
                 serial: self.exchanges.begin(Opening {
                     space: *space,
                     random: *random,
-                    exchange: copy_exchange(exchange),
+                    exchange: exchange.copy(),
                     time: now,
                 }),
             },

@@ -12,7 +12,7 @@ pub const NONCES: u32 = 4096;
 pub const EXCHANGES: u32 = 1024;
 
 /// How many seconds a nonce lives in the standard sizes: five minutes.
-const NONCE_LIFE: u64 = 300;
+pub const NONCE_LIFE: u64 = 300;
 
 /// How many seconds an exchange waits for its try in the standard sizes: one minute.
 const OPEN_LIFE: u64 = 60;
@@ -37,7 +37,8 @@ pub struct Sizes {
 }
 
 impl Sizes {
-    /// Sixteen shards.
+    /// Sixteen shards, each of 4,096 nonces and 1,024 exchanges. A nonce lives five minutes and has 1,024 uses. An exchange
+    /// waits one minute for its try, and is recalled for one hour when it is finished.
     pub fn standard() -> Sizes
         ensures { result ≡ standard_sizes }
     {

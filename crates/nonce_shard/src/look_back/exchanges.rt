@@ -4,7 +4,6 @@ ghost use Rattle.std.specs.List.{list_any};
 ghost use Rattle.nonce_shard.specs.Exchanges.{opening_in, openings, opening, takes, keep_in, kept_at, progress};
 
 use crate::calls::{Reply, What};
-use crate::copies::copy_exchange;
 use crate::exchanges::{Opening, Progress, is_named};
 use crate::history::Answered;
 use crate::names::{TableName, is_same};
@@ -21,7 +20,7 @@ fn opened_by(a: &Answered) -> Option<Opening>
         } => Some(Opening {
             space: *space,
             random: *random,
-            exchange: copy_exchange(exchange),
+            exchange: exchange.copy(),
             time: a.time,
         }),
         _ => None,

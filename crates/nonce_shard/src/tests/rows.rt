@@ -181,7 +181,7 @@ const EXCHANGE: &str = "\
 3723 take 1 0: Ok(Gone)";
 
 #[test]
-fn worked_rows(rt: HostRuntime) -> Result<(), Fail> {
+fn windows_lives_and_rings_decide_each_reply(rt: HostRuntime) -> Result<(), Fail> {
     for (calls, small, rows) in [
         (5, false, WINDOW),
         (16, false, LATER_WINDOW),

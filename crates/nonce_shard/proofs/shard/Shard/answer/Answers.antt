@@ -37,7 +37,7 @@ returns-in-Open-clause-nonces c past a holds what time is =
 
 pub returns-in-Open-clause-exchanges : goal.returns-in-Open-clause-exchanges
 returns-in-Open-clause-exchanges c past a holds what time is =
-    c.begin.ensures.holds c.args.self.now.setting past a holds (what ∙ c.in-Open.is ∙ ap (Open c.in-Open.space c.in-Open.random) (sym c.copy_exchange.ensures)) time is
+    c.begin.ensures.holds c.args.self.now.setting past a holds (what ∙ c.in-Open.is ∙ ap (Open c.in-Open.space c.in-Open.random) (sym c.copy.ensures)) time is
 
 pub returns-in-Take-clause-nonces : goal.returns-in-Take-clause-nonces
 returns-in-Take-clause-nonces c past a holds what time is =
