@@ -13,7 +13,8 @@ use Rattle.scram_text.specs.ClientFirsts.{FirstParts, IsShort, SpellsClientFirst
 use Rattle.scram_text.specs.Parts.{AreExtensions, IsAtComma, IsAttribute, behind_commas}
 use Rattle.scram_text.specs.declared.attribute.Attribute.TheVariants.{Name as NamePart, Nonce as NoncePart, Extension as ExtensionPart}
 use Rattle.scram_text.specs.declared.flag.Flag.TheVariants.{N}
-use Rattle.scram_text.specs.declared.limits.TheConstants.{BARE_LIMIT, NAME_LIMIT, NONCE_LIMIT}
+use Rattle.auth_grammar.specs.declared.plain.TheConstants.{NAME_LIMIT}
+use Rattle.scram_text.specs.declared.limits.TheConstants.{BARE_LIMIT, NONCE_LIMIT}
 use Rattle.scram_text.proofs.AttributeLaws.{content_whole, attribute_whole}
 use Rattle.scram_text.proofs.ExtensionLaws.{at_comma}
 use Rattle.scram_text.proofs.NameBytes.{Written, written, comma, equals, itself}

@@ -1,8 +1,10 @@
 -- The groups of base64 texts, and the bytes that they write.
-use Rattle.std.proofs.Common.{◌≡◌, ℕ, zero, suc, ◌+◌, ◌*◌, ◌/◌, ◌%◌, ◌<◌, ◌≤◌, ◌==◌, ◌&&◌, ◌||◌, not, nat_lt, Bool, true, false, List, [], ◌∷◌, ◌++◌, length, slice_index, refl, sym, ◌∙◌, ap, arith, Result, Ok, length-append, replicate}
+use Rattle.std.proofs.Common.{◌≡◌, ℕ, zero, suc, ◌+◌, ◌*◌, ◌/◌, ◌%◌, ◌<◌, ◌≤◌, ◌==◌, ◌&&◌, ◌||◌, not, nat_lt, Bool, true, false, List, [], ◌∷◌, ◌++◌, length, slice_index, refl, sym, ◌∙◌, ap, arith, Result, Ok, Some, length-append, replicate}
 use Rattle.std.proofs.lemmas.Bool.Decides.{Decides-eqb, nat_tests}
 use Rattle.std.proofs.lemmas.Bool.{ltb-true}
 use Rattle.std.proofs.lemmas.List.{length-replicate}
+use Rattle.std.proofs.lemmas.Option.{same_Some}
+use Rattle.std.specs.Result.{result_ok}
 use Rattle.base64.specs.Engines.{standard}
 use Rattle.base64.specs.GeneralPurpose.{IsBytes, decode_of}
 use Rattle.base64.specs.Rfc4648.{encode, encode_symbols, padding_len, unpadded_len}
@@ -10,7 +12,7 @@ use Rattle.base64.proofs.EngineFacts.{decode_of-encode_of, encode_of-append, enc
 use Rattle.base64.proofs.RoundTrip.{length-encode_symbols}
 use Rattle.base64.proofs.Tables.{all_below_at}
 use Rattle.scram_text.specs.Base64Places.{symbol_value}
-use Rattle.scram_text.specs.Bytes.{base64_text, is_symbol}
+use Rattle.scram_text.specs.Bytes.{base64_bytes, base64_text, is_symbol}
 use Rattle.scram_text.proofs.ByteTests.{both}
 
 -- the character of a value
@@ -163,6 +165,11 @@ same_ok f x y u v p q e = cc
 
 pub base64_injective : (m n : List ℕ) → IsBytes m → IsBytes n → base64_text m ≡ base64_text n → m ≡ n
 base64_injective m n fm fn same = same_ok (decode_of standard) (base64_text m) (base64_text n) m n (decode_of-encode_of standard m refl fm) (decode_of-encode_of standard n refl fn) same
+
+-- what a text writes is what is read from it
+pub written_bytes : (text m bytes : List ℕ) → IsBytes m → text ≡ base64_text m → base64_bytes text ≡ Some bytes → m ≡ bytes
+written_bytes text m bytes fits written is =
+    same_Some m bytes (sym (ap result_ok (decode_of-encode_of standard m refl fits)) ∙ ap base64_bytes (sym written) ∙ is)
 
 -- what a client's header is in base64
 pub header_n : base64_text (110 ∷ 44 ∷ 44 ∷ []) ≡ 98 ∷ 105 ∷ 119 ∷ 115 ∷ []

@@ -1,18 +1,19 @@
 -- What a client-first says by the text behind its flag, by computing it.
-use Rattle.std.specs.Prelude.{ℕ, Bool, true, false, ◌&&◌, ◌==◌, nat_le, bytes_eq, if◌then◌else◌, List, [], ◌∷◌, ◌++◌, drop, length, zero, suc, slice_index, Option, Some, None}
+use Rattle.std.specs.Prelude.{ℕ, Bool, true, false, ◌&&◌, ◌==◌, nat_le, bytes_eq, if◌then◌else◌, List, [], ◌∷◌, ◌++◌, codes, drop, length, zero, suc, slice_index, Option, Some, None}
 use Rattle.std.specs.List.{list_all, slice_split}
 use Rattle.auth_grammar.specs.Plain.{is_printable}
 use Rattle.scram_text.specs.Bytes.{escaped, is_letter, is_nonce_byte, is_value_byte, some_of}
 use Rattle.scram_text.specs.ClientFirsts.{FirstParts}
 use Rattle.scram_text.specs.declared.flag.Flag.TheVariants.{N}
-use Rattle.scram_text.specs.declared.limits.TheConstants.{BARE_LIMIT, NAME_LIMIT, NONCE_LIMIT}
+use Rattle.auth_grammar.specs.declared.plain.TheConstants.{NAME_LIMIT}
+use Rattle.scram_text.specs.declared.limits.TheConstants.{BARE_LIMIT, NONCE_LIMIT}
 
 -- a name and a nonce
 pub record BareParts : Type 0 where
   pub name : List ℕ
   pub nonce : List ℕ
 
--- the byte behind an equals sign: of 2C a comma, of 3D an equals sign
+-- the byte behind an equals sign (61): of 2C, which ends with C (67), a comma (44), and of 3D an equals sign
 abbrev pub escaped_byte : List ℕ → ℕ
 escaped_byte text = if slice_index text 1 == 67 then 44 else 61
 
@@ -54,7 +55,7 @@ rest_in bare = drop (length (before_comma (behind_name bare))) (behind_name bare
 
 -- n=name,r=nonce and the rest
 abbrev pub bare_of : BareParts → List ℕ → List ℕ
-bare_of parts rest = 110 ∷ 61 ∷ (escaped parts.name ++ 44 ∷ 114 ∷ 61 ∷ (parts.nonce ++ rest))
+bare_of parts rest = codes "n=" ++ (escaped parts.name ++ (codes ",r=" ++ (parts.nonce ++ rest)))
 
 abbrev pub is_bare_of : List ℕ → BareParts → List ℕ → Bool
 is_bare_of bare parts rest =

@@ -1,9 +1,10 @@
 -- The bytes of names, nonces and values (RFC 5802 section 7).
-use Rattle.std.specs.Prelude.{◌≡◌, ◌≤◌, ◌<◌, ◌^◌, ℕ, Bool, ◌==◌, ◌&&◌, ◌||◌, not, nat_le, List, [], ◌∷◌, length, false, if◌then◌else◌}
+use Rattle.std.specs.Prelude.{◌≡◌, ◌≤◌, ◌<◌, ◌^◌, ℕ, Bool, ◌==◌, ◌&&◌, ◌||◌, not, nat_le, List, [], ◌∷◌, length, Option, false, if◌then◌else◌}
 use Rattle.std.specs.Char.{is_ascii_digit}
 use Rattle.std.specs.List.{flat_map, list_all, list_any}
+use Rattle.std.specs.Result.{result_ok}
 use Rattle.base64.specs.Engines.{standard}
-use Rattle.base64.specs.GeneralPurpose.{IsBytes, encode_of}
+use Rattle.base64.specs.GeneralPurpose.{IsBytes, decode_of, encode_of}
 
 -- one byte or more, all of which pass the test
 abbrev pub some_of : (ℕ → Bool) → List ℕ → Bool
@@ -39,6 +40,10 @@ is_symbol b = is_letter b || is_ascii_digit b || (b == 43) || (b == 47)
 -- base64 with padding (RFC 4648 section 4)
 abbrev pub base64_text : List ℕ → List ℕ
 base64_text bytes = encode_of standard bytes
+
+-- the bytes that the base64 writes, with its padding and no bits left over
+abbrev pub base64_bytes : List ℕ → Option (List ℕ)
+base64_bytes text = result_ok (decode_of standard text)
 
 -- a salt has a byte
 pub record IsSalt (salt : List ℕ) : Type 0 where

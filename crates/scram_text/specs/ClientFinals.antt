@@ -1,5 +1,5 @@
 -- The last message of a client (RFC 5802 section 7: client-final-message).
-use Rattle.std.specs.Prelude.{◌≡◌, ℕ, List, ◌∷◌, ◌++◌, true}
+use Rattle.std.specs.Prelude.{◌≡◌, ℕ, List, ◌++◌, codes, true}
 use Rattle.scram_text.specs.Bytes.{IsDigest, base64_text, is_nonce_byte, some_of}
 use Rattle.scram_text.specs.Contents.{Holds}
 use Rattle.scram_text.specs.Flags.{header}
@@ -9,7 +9,7 @@ use Rattle.scram_text.specs.declared.flag.Flag.{Flag}
 
 -- c=header,r=nonce
 abbrev pub without_text : Flag → List ℕ → List ℕ
-without_text flag nonce = 99 ∷ 61 ∷ (base64_text (header flag) ++ 44 ∷ 114 ∷ 61 ∷ nonce)
+without_text flag nonce = codes "c=" ++ (base64_text (header flag) ++ (codes ",r=" ++ nonce))
 
 -- and then extensions, none of which is p=: what the proof is over
 pub record IsWithout (text : List ℕ) (flag : Flag) (nonce : List ℕ) : Type 0 where
@@ -20,7 +20,7 @@ pub record IsWithout (text : List ℕ) (flag : Flag) (nonce : List ℕ) : Type 0
 
 -- without the proof, and ,p=proof
 abbrev pub client_final_text : List ℕ → List ℕ → List ℕ
-client_final_text without proof = without ++ 44 ∷ 112 ∷ 61 ∷ base64_text proof
+client_final_text without proof = without ++ (codes ",p=" ++ base64_text proof)
 
 -- what a client-final says
 pub record ClientFinalParts : Type 0 where
@@ -41,7 +41,7 @@ IsClientFinalText = Then (IsAttribute Binding) (Then (IsAttribute Nonce) IsTail)
 -- the text is a client-final of these parts as they are written
 pub record CutsClientFinal (text binding nonce proof : List ℕ) : Type 0 where
   pub extensions : List ℕ
-  pub cut : text ≡ 99 ∷ 61 ∷ (binding ++ 44 ∷ 114 ∷ 61 ∷ (nonce ++ (extensions ++ 44 ∷ 112 ∷ 61 ∷ proof)))
+  pub cut : text ≡ codes "c=" ++ (binding ++ (codes ",r=" ++ (nonce ++ (extensions ++ (codes ",p=" ++ proof)))))
   pub holds_binding : Holds Binding binding
   pub holds_nonce : Holds Nonce nonce
   pub holds_proof : Holds Proof proof

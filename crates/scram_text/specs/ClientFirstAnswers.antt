@@ -9,7 +9,8 @@ use Rattle.scram_text.specs.declared.error.ScramError.{ScramError}
 use Rattle.scram_text.specs.declared.error.ScramError.TheVariants.{TooLong, ChannelBinding, Authzid, Extension, NotMessage, OutOfMemory}
 use Rattle.scram_text.specs.declared.error.ScramField.{ScramField}
 use Rattle.scram_text.specs.declared.error.ScramField.TheVariants.{Bare, First, Name, Nonce}
-use Rattle.scram_text.specs.declared.limits.TheConstants.{BARE_LIMIT, FLAG_LENGTH, NAME_LIMIT, NONCE_LIMIT}
+use Rattle.auth_grammar.specs.declared.plain.TheConstants.{NAME_LIMIT}
+use Rattle.scram_text.specs.declared.limits.TheConstants.{BARE_LIMIT, FLAG_LENGTH, NONCE_LIMIT}
 
 -- what a message says
 abbrev pub parts_of : ClientFirst → FirstParts

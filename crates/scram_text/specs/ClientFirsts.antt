@@ -1,23 +1,24 @@
 -- The first message of a client (RFC 5802 section 7: client-first-message).
-use Rattle.std.specs.Prelude.{◌≡◌, ◌≤◌, ℕ, Bool, ◌==◌, true, List, ◌∷◌, ◌++◌, length}
+use Rattle.std.specs.Prelude.{◌≡◌, ◌≤◌, ℕ, Bool, ◌==◌, true, List, ◌∷◌, ◌++◌, codes, length}
 use Rattle.scram_text.specs.Bytes.{escaped, is_nonce_byte, some_of}
 use Rattle.scram_text.specs.Contents.{WritesName}
 use Rattle.scram_text.specs.Flags.{flag_letter, is_flag}
 use Rattle.scram_text.specs.Parts.{AreExtensions, Ends, IsAttribute, LedBy, Then}
 use Rattle.scram_text.specs.declared.attribute.Attribute.TheVariants.{Name as NamePart, Nonce as NoncePart}
 use Rattle.scram_text.specs.declared.flag.Flag.{Flag}
-use Rattle.scram_text.specs.declared.limits.TheConstants.{BARE_LIMIT, NAME_LIMIT, NONCE_LIMIT}
+use Rattle.auth_grammar.specs.declared.plain.TheConstants.{NAME_LIMIT}
+use Rattle.scram_text.specs.declared.limits.TheConstants.{BARE_LIMIT, NONCE_LIMIT}
 
 -- n=name,r=nonce and extensions, the name as it is written
 pub record IsBare (text written nonce : List ℕ) : Type 0 where
   pub extensions : List ℕ
-  pub cut : text ≡ 110 ∷ 61 ∷ (written ++ 44 ∷ 114 ∷ 61 ∷ (nonce ++ extensions))
+  pub cut : text ≡ codes "n=" ++ (written ++ (codes ",r=" ++ (nonce ++ extensions)))
   pub is_nonce : some_of is_nonce_byte nonce ≡ true
   pub are_extensions : AreExtensions extensions
 
 -- the same without extensions
 abbrev pub bare_text : List ℕ → List ℕ → List ℕ
-bare_text name nonce = 110 ∷ 61 ∷ (escaped name ++ 44 ∷ 114 ∷ 61 ∷ nonce)
+bare_text name nonce = codes "n=" ++ (escaped name ++ (codes ",r=" ++ nonce))
 
 -- what a client-first says
 pub record FirstParts : Type 0 where
@@ -29,7 +30,7 @@ pub record FirstParts : Type 0 where
 -- n,, or y,, and then bare
 pub record SpellsClientFirst (text : List ℕ) (parts : FirstParts) : Type 0 where
   pub written : List ℕ
-  pub cut : text ≡ flag_letter parts.flag ∷ 44 ∷ 44 ∷ parts.bare
+  pub cut : text ≡ flag_letter parts.flag ∷ codes ",," ++ parts.bare
   pub is_bare : IsBare parts.bare written parts.nonce
   pub is_name : WritesName written parts.name
 
@@ -58,19 +59,19 @@ IsClientFirstText = LedBy is_flag (LedBy is_comma (LedBy is_comma IsBareText))
 -- the client asks for channel binding
 pub record AsksBinding (text : List ℕ) : Type 0 where
   pub more : List ℕ
-  pub cut : text ≡ 112 ∷ 61 ∷ more
+  pub cut : text ≡ codes "p=" ++ more
 
 -- behind the flag an authorization identity stands
 pub record HasAuthzid (text : List ℕ) : Type 0 where
   pub flag : Flag
   pub more : List ℕ
-  pub cut : text ≡ flag_letter flag ∷ 44 ∷ 97 ∷ 61 ∷ more
+  pub cut : text ≡ flag_letter flag ∷ codes ",a=" ++ more
 
 -- bare begins with a mandatory extension
 pub record HasMandatory (text : List ℕ) : Type 0 where
   pub flag : Flag
   pub more : List ℕ
-  pub cut : text ≡ flag_letter flag ∷ 44 ∷ 44 ∷ 109 ∷ 61 ∷ more
+  pub cut : text ≡ flag_letter flag ∷ codes ",,m=" ++ more
 
 -- it is none of what is refused by itself
 pub record IsPlainFirst (text : List ℕ) : Type 0 where

@@ -15,3 +15,4 @@ pub mod ServerFinals
 pub mod ServerFinalAnswers
 pub mod Reauths
 pub mod Bares
+pub mod Items

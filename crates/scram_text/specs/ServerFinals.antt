@@ -1,5 +1,5 @@
 -- The last message of a server (RFC 5802 section 7: server-final-message).
-use Rattle.std.specs.Prelude.{◌≡◌, ◌⊎◌, ℕ, List, ◌∷◌, ◌++◌, true}
+use Rattle.std.specs.Prelude.{◌≡◌, ◌⊎◌, ℕ, List, ◌++◌, codes, true}
 use Rattle.scram_text.specs.Bytes.{IsDigest, base64_text, is_value_byte, some_of}
 use Rattle.scram_text.specs.Parts.{AreExtensions, Ends, IsAttribute}
 use Rattle.scram_text.specs.declared.attribute.Attribute.TheVariants.{Signature, Fault}
@@ -11,8 +11,8 @@ pub data FinalSaid : Type 0 where
 
 -- v=signature, or e=value
 abbrev pub server_final_text : FinalSaid → List ℕ
-server_final_text (signed signature) = 118 ∷ 61 ∷ base64_text signature
-server_final_text (failed value) = 101 ∷ 61 ∷ value
+server_final_text (signed signature) = codes "v=" ++ base64_text signature
+server_final_text (failed value) = codes "e=" ++ value
 
 abbrev pub IsSaid : FinalSaid → Type 0
 IsSaid (signed signature) = IsDigest signature

@@ -1,5 +1,5 @@
 -- The first message of a server (RFC 5802 section 7: server-first-message).
-use Rattle.std.specs.Prelude.{◌≡◌, ◌≤◌, ℕ, List, ◌∷◌, ◌++◌, true, decimal, length}
+use Rattle.std.specs.Prelude.{◌≡◌, ◌≤◌, ℕ, List, ◌++◌, codes, true, decimal, length}
 use Rattle.scram_text.specs.Bytes.{IsCount, IsSalt, base64_text, is_nonce_byte, some_of}
 use Rattle.scram_text.specs.Contents.{Holds}
 use Rattle.scram_text.specs.Parts.{AreExtensions, Ends, IsAttribute, Then}
@@ -8,7 +8,7 @@ use Rattle.scram_text.specs.declared.limits.TheConstants.{FIRST_LIMIT}
 
 -- r=nonce,s=salt,i=count
 abbrev pub server_first_text : List ℕ → List ℕ → ℕ → List ℕ
-server_first_text nonce salt i = 114 ∷ 61 ∷ (nonce ++ 44 ∷ 115 ∷ 61 ∷ (base64_text salt ++ 44 ∷ 105 ∷ 61 ∷ decimal i))
+server_first_text nonce salt i = codes "r=" ++ (nonce ++ (codes ",s=" ++ (base64_text salt ++ (codes ",i=" ++ decimal i))))
 
 -- what a server-first says
 pub record ServerFirstParts : Type 0 where
@@ -37,7 +37,7 @@ IsServerFirstText = Then (IsAttribute Nonce) (Then (IsAttribute Salt) (Ends (IsA
 -- the text is a server-first of these parts as they are written
 pub record CutsServerFirst (text nonce salt count : List ℕ) : Type 0 where
   pub extensions : List ℕ
-  pub cut : text ≡ 114 ∷ 61 ∷ (nonce ++ 44 ∷ 115 ∷ 61 ∷ (salt ++ 44 ∷ 105 ∷ 61 ∷ (count ++ extensions)))
+  pub cut : text ≡ codes "r=" ++ (nonce ++ (codes ",s=" ++ (salt ++ (codes ",i=" ++ (count ++ extensions)))))
   pub holds_nonce : Holds Nonce nonce
   pub holds_salt : Holds Salt salt
   pub holds_count : Holds Count count

@@ -1,11 +1,12 @@
-//! Salts, and what SHA-256 gives, in base64.
+//! Bytes in base64: any, salts, and what SHA-256 gives.
 ghost use Rattle.std.specs.Prelude.{◌≡◌, ◌≤◌, ◌↔◌, ◌++◌, ℕ, List, length, IfOk, IsTrue, OnOk};
-ghost use Rattle.scram_text.specs.Bytes.{base64_text};
+ghost use Rattle.scram_text.specs.Bytes.{base64_bytes, base64_text};
 ghost use Rattle.scram_text.specs.Contents.{WritesDigest, WritesSalt};
 ghost use Rattle.scram_text.specs.Reaching.{Reaches};
 
 use crate::base64_places::{Place, may_follow, walk};
 use auth_grammar::{Octets, OutOfMemory};
+use base64::DecodeAllocError;
 use base64::engine::general_purpose::STANDARD;
 use std::alloc::Global;
 
@@ -47,9 +48,9 @@ pub(crate) fn salt_of(alloc: Global, text: &[u8]) -> Result<Octets, OutOfMemory>
     requires { (salt : List ℕ) × WritesSalt text.now salt }
     ensures { IfOk result (λ salt. WritesSalt text.now salt) }
 {
-    match STANDARD.decode(alloc, text) {
-        Ok(bytes) => Ok(Octets::from_vec(bytes)),
-        Err(_) => Err(OutOfMemory),
+    match read_base64(alloc, text)? {
+        Some(salt) => Ok(salt),
+        None => Err(OutOfMemory),
     }
 }
 
@@ -58,18 +59,29 @@ pub(crate) fn digest_of(alloc: Global, text: &[u8]) -> Result<[u8; DIGEST_LENGTH
     requires { (digest : List ℕ) × WritesDigest text.now digest }
     ensures { IfOk result (λ digest. WritesDigest text.now digest) }
 {
-    match STANDARD.decode(alloc, text) {
-        Ok(bytes) => {
+    match read_base64(alloc, text)? {
+        Some(bytes) => {
             let mut digest = [0; DIGEST_LENGTH];
-            digest.copy_from_slice(bytes.as_slice());
+            digest.copy_from_slice(bytes.bytes());
             Ok(digest)
         }
-        Err(_) => Err(OutOfMemory),
+        None => Err(OutOfMemory),
+    }
+}
+
+/// The bytes that the text writes in base64 (RFC 4648 section 4), with its padding and no bits left over.
+pub fn read_base64(alloc: Global, text: &[u8]) -> Result<Option<Octets>, OutOfMemory>
+    ensures { IfOk result (λ bytes. bytes ≡ base64_bytes text.now) }
+{
+    match STANDARD.decode(alloc, text) {
+        Ok(bytes) => Ok(Some(Octets::from_vec(bytes))),
+        Err(DecodeAllocError::OutOfMemory) => Err(OutOfMemory),
+        Err(DecodeAllocError::DecodeError(_)) => Ok(None),
     }
 }
 
 /// Adds the bytes in base64 at the end of the text.
-pub(crate) fn push_base64(alloc: Global, text: &mut Octets, bytes: &[u8]) -> Result<(), OutOfMemory>
+pub fn push_base64(alloc: Global, text: &mut Octets, bytes: &[u8]) -> Result<(), OutOfMemory>
     ensures { OnOk result (text.new ≡ text.old ++ base64_text bytes.now) }
 {
     let written = STANDARD.encode(alloc, bytes)?;

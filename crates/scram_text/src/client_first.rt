@@ -1,6 +1,7 @@
 //! The first message of a client (RFC 5802 section 7: client-first-message).
 ghost use Rattle.std.specs.Prelude.{◌≡◌, ◌≤◌, ◌∷◌, ◌++◌, ℕ, List, true, length, IfOk};
 ghost use Rattle.auth_grammar.specs.Plain.{is_printable};
+ghost use Rattle.auth_grammar.specs.declared.plain.TheConstants.{NAME_LIMIT};
 ghost use Rattle.scram_text.specs.Bytes.{escaped, is_nonce_byte, some_of};
 ghost use Rattle.scram_text.specs.ClientFirsts.{IsClientFirst};
 ghost use Rattle.scram_text.specs.declared.limits.TheConstants.{NONCE_LIMIT};
@@ -9,9 +10,9 @@ use crate::client_first_parts::{bare_parts, flagged};
 use crate::client_first_reading::{message_of, refused};
 use crate::error::{ScramError, ScramField};
 use crate::flag::Flag;
-use crate::limits::{BARE_LIMIT, FLAG_LENGTH, NAME_LIMIT, NONCE_LIMIT};
+use crate::limits::{BARE_LIMIT, FLAG_LENGTH, NONCE_LIMIT};
 use crate::names::push_written;
-use auth_grammar::{Octets, OutOfMemory};
+use auth_grammar::{NAME_LIMIT, Octets, OutOfMemory};
 use std::alloc::Global;
 
 /// What a client sends first. It is what `read` gives for some text.

@@ -8,9 +8,9 @@ ghost use Rattle.scram_text.specs.Contents.{WritesName};
 use crate::client_first::ClientFirst;
 use crate::error::{ScramError, ScramField};
 use crate::flag::Flag;
-use crate::limits::{BARE_LIMIT, NAME_LIMIT, NONCE_LIMIT};
+use crate::limits::{BARE_LIMIT, NONCE_LIMIT};
 use crate::names::name_written;
-use auth_grammar::{Octets, behind};
+use auth_grammar::{NAME_LIMIT, Octets, behind};
 use std::alloc::Global;
 
 /// What the text is refused for, whatever else stands in it.

@@ -1,4 +1,4 @@
-//! The messages of SCRAM (RFC 5802 sections 5.1 and 7): reading and writing.
+//! The messages of SCRAM (RFC 5802 sections 5.1 and 7) and the items that carry them (RFC 7804 section 5): reading and writing.
 #![tactic(auto)]
 
 mod attribute;
@@ -14,6 +14,7 @@ mod client_first_reading;
 mod counts;
 mod error;
 mod flag;
+mod items;
 mod limits;
 mod names;
 mod parts;
@@ -27,12 +28,14 @@ mod server_first_reading;
 #[cfg(test)]
 mod tests;
 
-pub use base64_texts::DIGEST_LENGTH;
+pub use base64_texts::{DIGEST_LENGTH, push_base64, read_base64};
 pub use client_final::ClientFinal;
 pub use client_first::ClientFirst;
 pub use error::{ScramError, ScramField};
 pub use flag::Flag;
-pub use limits::{BARE_LIMIT, FIRST_LIMIT, NAME_LIMIT, NONCE_LIMIT};
+pub use items::{SCRAM_SCHEME, data_param, scram_item};
+pub use limits::{BARE_LIMIT, FIRST_LIMIT, NONCE_LIMIT};
 pub use reauth::{ReauthNonce, SR_LENGTH};
+pub use runs::is_symbol;
 pub use server_final::{ServerError, ServerFinal};
 pub use server_first::ServerFirst;

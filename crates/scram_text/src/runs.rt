@@ -1,7 +1,7 @@
 //! Runs of bytes of one class.
 ghost use Rattle.std.specs.Prelude.{◌≡◌, ◌≤◌, true, length};
 ghost use Rattle.std.specs.List.{list_all};
-ghost use Rattle.scram_text.specs.Bytes.{some_of};
+ghost use Rattle.scram_text.specs.Bytes.{is_symbol, some_of};
 ghost use Rattle.scram_text.specs.Contents.{is_of};
 ghost use Rattle.scram_text.specs.Reaching.{Reaches};
 
@@ -23,9 +23,16 @@ impl Class {
         match self {
             Class::Nonce => 33 <= byte && byte <= 126 && byte != b',',
             Class::Value => byte != 0 && byte != b',',
-            Class::Symbol => byte.is_ascii_alphanumeric() || byte == b'+' || byte == b'/',
+            Class::Symbol => is_symbol(byte),
         }
     }
+}
+
+/// Whether the byte is a base64 character other than the padding.
+pub fn is_symbol(byte: u8) -> bool
+    ensures { result ≡ is_symbol byte }
+{
+    byte.is_ascii_alphanumeric() || byte == b'+' || byte == b'/'
 }
 
 /// Whether the text is one byte of the class or more.

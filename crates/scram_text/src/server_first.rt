@@ -31,6 +31,19 @@ impl ServerFirst {
     ghost use Rattle.scram_text.specs.ServerFirsts.{ServerFirstParts, SpellsServerFirst};
     ghost use Rattle.scram_text.specs.ServerFirstAnswers.{AnswersServerFirst, server_first_parts as parts_of};
 
+    /// The text of these parts, without extensions.
+    pub fn text_of(alloc: Global, nonce: &[u8], salt: &[u8], i: u32) -> Result<Octets, OutOfMemory>
+        ensures { IfOk result (λ t. t ≡ server_first_text nonce.now salt.now i) }
+    {
+        let mut text = Octets::of(alloc, b"r=")?;
+        text.extend(nonce)?;
+        text.extend(b",s=")?;
+        push_base64(alloc, &mut text, salt)?;
+        text.extend(b",i=")?;
+        text.extend(Buffer::new().format(i).as_bytes())?;
+        Ok(text)
+    }
+
     /// The message of these parts, without extensions.
     pub fn new(alloc: Global, nonce: &[u8], salt: &[u8], i: u32) -> Result<ServerFirst, OutOfMemory>
         requires nonce { some_of is_nonce_byte nonce.now ≡ true }
@@ -40,17 +53,11 @@ impl ServerFirst {
         ensures parts { IfOk result (λ m. parts_of m ≡ record { nonce = nonce.now; salt = salt.now; i = i }) }
         ensures text { IfOk result (λ m. m.text ≡ server_first_text nonce.now salt.now i) }
     {
-        let mut text = Octets::of(alloc, b"r=")?;
-        text.extend(nonce)?;
-        text.extend(b",s=")?;
-        push_base64(alloc, &mut text, salt)?;
-        text.extend(b",i=")?;
-        text.extend(Buffer::new().format(i).as_bytes())?;
         Ok(ServerFirst {
             nonce: Octets::of(alloc, nonce)?,
             salt: Octets::of(alloc, salt)?,
             i,
-            text,
+            text: ServerFirst::text_of(alloc, nonce, salt, i)?,
         })
     }
 

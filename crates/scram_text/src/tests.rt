@@ -184,7 +184,7 @@ fn check_beginnings(
 }
 
 #[test]
-fn texts_and_their_answers(rt: HostRuntime) -> Result<(), Fail> {
+fn each_text_is_read_or_refused(rt: HostRuntime) -> Result<(), Fail> {
     check_rows(&rt, rt.alloc(), Kind::ClientFirst, &CLIENT_FIRST)?;
     check_rows(&rt, rt.alloc(), Kind::ServerFirst, &SERVER_FIRST)?;
     check_rows(&rt, rt.alloc(), Kind::ClientFinal, &CLIENT_FINAL)?;
@@ -193,7 +193,7 @@ fn texts_and_their_answers(rt: HostRuntime) -> Result<(), Fail> {
 }
 
 #[test]
-fn beginnings_of_texts(rt: HostRuntime) -> Result<(), Fail> {
+fn a_beginning_is_refused_at_its_end(rt: HostRuntime) -> Result<(), Fail> {
     check_beginnings(
         &rt,
         rt.alloc(),
@@ -216,7 +216,7 @@ fn beginnings_of_texts(rt: HostRuntime) -> Result<(), Fail> {
 }
 
 #[test]
-fn written_texts(rt: HostRuntime) -> Result<(), Fail> {
+fn each_message_is_written(rt: HostRuntime) -> Result<(), Fail> {
     let alloc = rt.alloc();
     let message = ClientFirst::new(alloc, Flag::N, b"a,b=c", b"rOprNGfwEbeRWgbNEkqO")?;
     let text = message.write(alloc)?;
@@ -243,7 +243,7 @@ fn written_texts(rt: HostRuntime) -> Result<(), Fail> {
 }
 
 #[test]
-fn parts_of_texts(rt: HostRuntime) -> Result<(), Fail> {
+fn each_message_has_its_parts(rt: HostRuntime) -> Result<(), Fail> {
     let alloc = rt.alloc();
     let Ok(first) = ClientFirst::read(alloc, b"n,,n=a=2Cb,r=x") else {
         return Ok(assert!(rt; false));
