@@ -38,7 +38,7 @@ pub(crate) enum LineSearch {
     Refused,
 }
 
-// behind the digits and the white space
+/// What a byte behind the digits and the white space does.
 fn behind_size(b: u8) -> LineStep
     ensures { result ≡ behind_size b }
 {

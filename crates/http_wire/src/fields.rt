@@ -65,7 +65,7 @@ impl Fields {
         Ok(Fields { map })
     }
 
-    // the fields at the spans of a head, or None where a name is too long for a field
+    /// The fields at the spans of a head, or None where a name is too long for a field.
     pub(crate) fn read(
         alloc: Global,
         text: &[u8],
@@ -146,7 +146,7 @@ impl Fields {
         found
     }
 
-    // whether each value of a name is that text, without regard to case
+    /// Whether each value of a name is that text, without regard to case.
     pub(crate) fn all_are(&self, name: &[u8], text: &[u8]) -> bool
         ensures { result ≡ list_all (λ value. same_name value text.now) (values_of self.now name.now) }
     {

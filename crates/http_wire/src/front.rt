@@ -11,7 +11,7 @@ pub const LINE_LIMIT: usize = 66;
 /// The most field lines of a head.
 pub const FIELD_LIMIT: usize = 64;
 
-// the bytes in which a head must end
+/// The bytes in which a head must end.
 pub(crate) fn window(bytes: &[u8]) -> &[u8]
     ensures { result.now ≡ take HEAD_LIMIT bytes.now }
 {
@@ -22,7 +22,7 @@ pub(crate) fn window(bytes: &[u8]) -> &[u8]
     }
 }
 
-// the first bytes
+/// The first `len` bytes.
 pub(crate) fn front_of(bytes: &[u8], len: usize) -> &[u8]
     requires { len ≤ length bytes.now }
     ensures { result.now ≡ take len bytes.now }
@@ -30,7 +30,7 @@ pub(crate) fn front_of(bytes: &[u8], len: usize) -> &[u8]
     &bytes[..len]
 }
 
-// the bytes from a place on
+/// The bytes from a place on.
 pub(crate) fn behind(bytes: &[u8], at: usize) -> &[u8]
     requires { at ≤ length bytes.now }
     ensures { result.now ≡ drop at bytes.now }

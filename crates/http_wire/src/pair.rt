@@ -8,4 +8,5 @@ pub struct Pair {
     pub value: Octets,
 }
 
+/// Field lines, in order.
 pub type PairList = Sequence<Pair>;

@@ -40,7 +40,7 @@ pub(crate) fn has_sound_length(fields: &Fields) -> bool
     }
 }
 
-// the length, where it isn't above the limit
+/// The length of the body, where it isn't above the limit.
 fn length(fields: &Fields) -> Option<u32>
     requires { are_lengths (values_of fields.now (codes "content-length")) ≡ true }
     ensures { let n = first_number (values_of fields.now (codes "content-length")) in
@@ -52,7 +52,7 @@ fn length(fields: &Fields) -> Option<u32>
     }
 }
 
-// what a head asks for, or its first fault
+/// What a head asks for, or its first fault.
 #[tactic(auto, unfolding(crate::specs::RequestChecks::judge_fields, crate::specs::RequestChecks::fault_of, crate::specs::RequestChecks::named_of, crate::specs::RequestChecks::sound_head))]
 pub(crate) fn check_fields(
     alloc: Global,

@@ -41,7 +41,7 @@ impl Model for RequestFeed {
     ghost invariant = { λ f. IsPhase f.rest f.phase × (f.at + length f.rest < 2 ^ 63) };
 }
 
-// looks at the bytes that came, from a place on
+/// Looks at the bytes that came, from a place on.
 fn look(alloc: Global, bytes: &[u8], place: Place) -> Result<Phase, OutOfMemory>
     requires { Tracks (take HEAD_LIMIT bytes.now) place }
     ensures { IfOk result (λ phase. IsSettled bytes.now phase) }
@@ -62,7 +62,7 @@ fn look(alloc: Global, bytes: &[u8], place: Place) -> Result<Phase, OutOfMemory>
     }
 }
 
-// looks at the bytes that came
+/// Looks at the bytes that came.
 fn settle(alloc: Global, bytes: &[u8], phase: &mut Phase) -> Result<(), OutOfMemory>
     requires { IsPhase bytes.now phase.old }
     ensures ok { OnOk result (IsSettled bytes.now phase.new) }
@@ -133,7 +133,7 @@ impl RequestFeed {
         }
     }
 
-    // what stands at the front, where a head without a fault stands from `start` to `end`
+    /// What stands at the front, where a head without a fault stands from `start` to `end`.
     fn read_body(&mut self, head: SoundHead, start: usize, end: usize) -> Next
         requires body { IsPhase self.old.rest (Phase.Body head start end) }
         requires goes { self.old.stopped ≡ false }
@@ -175,7 +175,7 @@ impl RequestFeed {
     }
 }
 
-// whether not whole empty lines alone came
+/// Whether more came than whole empty lines.
 fn has_begun(bytes: &[u8]) -> bool
     ensures { result ≡ begun_at bytes.now }
 {
@@ -189,7 +189,7 @@ fn has_begun(bytes: &[u8]) -> bool
     }
 }
 
-// whether a Continue is to be given
+/// Whether a `Continue` is to be given.
 fn owes(expects: bool, told: bool) -> bool
     ensures { result ≡ (expects && not told) }
 {

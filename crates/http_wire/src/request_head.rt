@@ -44,7 +44,7 @@ pub(crate) fn count_lines(text: &[u8]) -> usize
     count
 }
 
-// the spans of the head that the text is, if it is one
+/// The spans of the head that the text is, if it is one.
 fn parse(text: &[u8], headers: &mut [HeaderSpan]) -> Option<RequestSpans>
     requires room { length headers.old ≡ FIELD_LIMIT }
     requires no_blank { empty_line text.now ≡ 0 }

@@ -51,7 +51,7 @@ fn has_other_coding(fields: &Fields) -> bool
     }
 }
 
-// the framing by the length, which is told
+/// The framing by the length that is told.
 fn told_length(fields: &Fields) -> Framing
     requires { are_lengths (values_of fields.now (codes "content-length")) ≡ true }
     ensures { result ≡ sized (first_number (values_of fields.now (codes "content-length"))) }
@@ -81,7 +81,7 @@ fn framing_of(to_head: bool, status: u16, fields: &Fields) -> Framing
     told_length(fields)
 }
 
-// what a head says, or that it has a fault
+/// What a head says, or that it has a fault.
 #[tactic(auto, unfolding(crate::specs::ResponseChecks::judge_response_fields))]
 pub(crate) fn check_response(
     alloc: Global,

@@ -47,7 +47,7 @@ impl Model for ResponseFeed {
     ghost invariant = { λ f. IsStage f.rest f.stage × (length f.rest ≤ f.count) × (f.count < 2 ^ 63) };
 }
 
-// behind a head without fault
+/// The stage behind a head without a fault.
 fn body_stage(head: SoundResponse, at: u64) -> Stage
     ensures front { (to_head : Bool) (bytes : List ℕ)
         → stage_front to_head result at bytes ≡ body_front head.response head.framing at bytes }
@@ -74,7 +74,7 @@ fn body_stage(head: SoundResponse, at: u64) -> Stage
     }
 }
 
-// behind a chunk line
+/// The stage behind a chunk line.
 fn chunk_stage(response: Response, at: u64, line_at: u64, size: u64) -> Stage
     ensures front { (to_head : Bool) (place : ℕ) (bytes : List ℕ) → stage_front to_head result place bytes
         ≡ behind_line (λ r p b. chunks r at p b) response at line_at place size bytes }
@@ -94,7 +94,7 @@ fn chunk_stage(response: Response, at: u64, line_at: u64, size: u64) -> Stage
     Stage::Body { response, at, part }
 }
 
-// whether a body would be too long
+/// Whether a body of `len` bytes would be too long with `more`.
 fn exceeds(len: usize, more: u64) -> bool
     requires { len < 2 ^ 63 }
     ensures { result ≡ nat_lt RESPONSE_LIMIT (len + more) }
@@ -168,7 +168,7 @@ impl ResponseFeed {
 }
 
 impl ResponseFeed {
-    // all steps that can be made now
+    /// Makes all steps that can be made now.
     fn run(&mut self) -> Step
         ensures { Runs (λ more. ahead self.old more) self.old self.new result }
     {
@@ -190,7 +190,7 @@ impl ResponseFeed {
         }
     }
 
-    // tells a fault from now on
+    /// Tells a fault from now on.
     fn stop(&mut self, at: u64) -> Step
         ensures result { result ≡ Step.Fault at }
         ensures after { self.new ≡ record self.old { stage = Stage.Stopped at } }
@@ -199,7 +199,7 @@ impl ResponseFeed {
         Step::Fault { at }
     }
 
-    // the place of the bytes that weren't taken
+    /// The place of the bytes that weren't taken.
     fn place(&self) -> u64
         ensures place { result ≡ place_of self.now }
         ensures bound { result + length self.now.rest < 2 ^ 63 }
@@ -207,7 +207,7 @@ impl ResponseFeed {
         self.count - self.rest.len() as u64
     }
 
-    // what stands there at the end of the input, after all steps that could be made
+    /// What stands at the front at the end of the input, after all steps that could be made.
     fn end(&mut self) -> NextResponse
         requires { Waits self.old }
         ensures { EndsResponse self.old self.new result }
@@ -223,7 +223,7 @@ impl ResponseFeed {
         }
     }
 
-    // the input ended inside a response
+    /// Tells that the input ended inside a response.
     fn end_at(&mut self, at: u64) -> NextResponse
         ensures result { result ≡ NextResponse.Bad at }
         ensures after { self.new ≡ record self.old { stage = Stage.Stopped at } }
@@ -232,7 +232,7 @@ impl ResponseFeed {
         NextResponse::Bad { at }
     }
 
-    // goes to a stage
+    /// Goes to a stage.
     fn keep(&mut self, stage: Stage, step: Step) -> Step
         requires { IsStage self.old.rest stage }
         ensures result { result ≡ step }
@@ -242,7 +242,7 @@ impl ResponseFeed {
         step
     }
 
-    // moves bytes into a body, as many of those that are missing as there are
+    /// Moves bytes into a body, as many of the `left` that are missing as there are.
     fn move_body(&mut self, body: &mut Octets, left: usize) -> Result<usize, OutOfMemory>
         ensures count { IfOk result (λ count. count ≡ min left (length self.old.rest)) }
         ensures after { IfOk result (λ count. self.new ≡ record self.old { rest = drop count self.old.rest; stage = Stage.Head 0 }) }
@@ -258,7 +258,7 @@ impl ResponseFeed {
         Ok(count)
     }
 
-    // takes bytes and goes on in a stage
+    /// Takes bytes and goes on in a stage.
     fn go_on(&mut self, count: usize, stage: Stage) -> Step
         requires count { count ≤ length self.old.rest }
         requires stage { IsStage (drop count self.old.rest) stage }
@@ -271,7 +271,7 @@ impl ResponseFeed {
         Step::On
     }
 
-    // takes the last bytes of a response
+    /// Takes the last bytes of a response, and gives it.
     fn give(&mut self, count: usize, response: Response) -> Step
         requires { count ≤ length self.old.rest }
         ensures result { result ≡ Step.Done response }
@@ -283,7 +283,7 @@ impl ResponseFeed {
         Step::Done(response)
     }
 
-    // waits for more bytes, where the first 16,384 aren't there yet
+    /// Waits for more bytes, where the first 16,384 aren't there yet, and else tells a fault.
     fn wait_or_stop(&mut self, stage: Stage, at: u64) -> Step
         requires { IsStage self.old.rest stage }
         ensures { WaitsOrStops self.old self.new stage at result }
@@ -295,7 +295,7 @@ impl ResponseFeed {
         self.stop(at)
     }
 
-    // a head that doesn't end before `from`
+    /// Reads a head that doesn't end before `from`.
     fn read_head(&mut self, from: usize) -> Step
         requires search { GoesOn (take HEAD_LIMIT self.old.rest) 0 from }
         requires goes { is_over self.old ≡ false }
@@ -312,7 +312,7 @@ impl ResponseFeed {
         self.pass_head(judged, end)
     }
 
-    // a head of that many bytes
+    /// Takes a head of `end` bytes.
     fn pass_head(&mut self, judged: JudgedResponse, end: usize) -> Step
         requires head { head_len (take HEAD_LIMIT self.old.rest) ≡ Some end }
         requires judged { judged ≡ judge_response self.old.to_head (take end self.old.rest) }
@@ -451,7 +451,7 @@ impl ResponseFeed {
     }
 }
 
-// whether CR LF stands at the front, where the bytes tell
+/// Whether CR LF stands at the front, where the bytes tell.
 fn has_crlf(bytes: &[u8]) -> Option<bool>
     ensures { result ≡ has_crlf bytes.now }
 {
@@ -462,7 +462,7 @@ fn has_crlf(bytes: &[u8]) -> Option<bool>
     }
 }
 
-// the end of the trailers
+/// The end of the trailers.
 fn find_trailers_end(first: &[u8], from: usize) -> End
     requires { GoesOn first.now 0 from }
     ensures { FindsTrailers first.now result }

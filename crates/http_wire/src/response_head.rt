@@ -15,7 +15,7 @@ use httparse::Status;
 use httparse::spans::{EMPTY_HEADER_SPAN, HeaderSpan, ResponseSpans, parse_response};
 use std::alloc::Global;
 
-// the spans of the head that the text is, if it is one
+/// The spans of the head that the text is, if it is one.
 fn parse(text: &[u8], headers: &mut [HeaderSpan]) -> Option<ResponseSpans>
     requires room { length headers.old ≡ FIELD_LIMIT }
     requires whole { head_len text.now ≡ Some (length text.now) }

@@ -38,7 +38,7 @@ pub(crate) fn find_head(bytes: &[u8], place: Place) -> Search
     }
 }
 
-// the length of the empty line at the front, 0 where none is there; none where the bytes that follow tell
+/// The length of the empty line at the front, 0 where none is there, or None where the bytes that follow tell.
 pub(crate) fn line_here(bytes: &[u8]) -> Option<usize>
     ensures { TellsLine bytes.now result }
 {
@@ -51,7 +51,7 @@ pub(crate) fn line_here(bytes: &[u8]) -> Option<usize>
     }
 }
 
-// how far from here the head's end is, 0 where its last line doesn't begin after this byte
+/// How far from here the head's end is, 0 where its last line doesn't begin after this byte.
 fn end_at(bytes: &[u8]) -> Option<usize>
     ensures { TellsEnd bytes.now result }
 {
@@ -90,7 +90,7 @@ fn search_head(bytes: &[u8], start: usize, from: usize) -> Search
     }
 }
 
-// where the first line feed from `from` on stands, or the end where there is none
+/// Where the first line feed from `from` on stands, or the end where there is none.
 fn next_feed(bytes: &[u8], from: usize) -> usize
     requires { from ≤ length bytes.now }
     ensures onward { from ≤ result }

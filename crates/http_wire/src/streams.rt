@@ -28,7 +28,7 @@ pub fn requests_of(alloc: Global, pieces: &[Octets]) -> Result<Vec<Request>, Out
     Ok(requests)
 }
 
-// takes all whole messages; whether no bad one stands behind them
+/// Takes all whole messages. Answers whether no bad one stands behind them.
 fn take_whole(feed: &mut RequestFeed, requests: &mut Vec<Request>) -> Result<bool, OutOfMemory>
     requires { feed.old.stopped ≡ false }
     ensures { IfOk result (Takes feed.old feed.new requests.old.items requests.new.items) }

@@ -6,7 +6,7 @@ mod requests;
 mod responses;
 mod texts;
 
-// a text with a part that stands many times
+/// A text with a part that stands many times.
 fn repeated(
     alloc: Global,
     front: &[u8],

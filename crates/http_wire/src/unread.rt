@@ -67,7 +67,7 @@ impl Unread {
         self.taken += count;
     }
 
-    // moves the rest to the front of the vector
+    /// Moves the rest to the front of the vector.
     fn drop_taken(&mut self)
         ensures { self.new ≡ self.old }
     {

@@ -32,7 +32,7 @@ pub(crate) fn is_number(bytes: &[u8]) -> bool
     bytes.len() > 0 && all_digits(bytes)
 }
 
-// the number that digits write, where it isn't above the limit
+/// The number that digits write, where it isn't above the limit.
 pub(crate) fn number(digits: &[u8], limit: u32) -> Option<u32>
     requires written { is_number digits.now ≡ true }
     requires room { limit ≤ 100_000_000 }
@@ -75,7 +75,7 @@ fn trim(bytes: &[u8]) -> &[u8]
     trim_back(trim_front(bytes))
 }
 
-// whether a part between commas is that token, without regard to case
+/// Whether a part between commas is that token, without regard to case.
 pub(crate) fn has_part(value: &[u8], token: &[u8]) -> bool
     ensures { result ≡ list_any (λ part. same_name (trim_ows part) token.now) (parts_at_commas value.now) }
 {

@@ -7,7 +7,7 @@ use std::fmt::Write;
 use std::process::Abort;
 use std::test::Fail;
 
-// what a feed gives, as words
+/// What a feed gives, as words.
 #[derive(Drop)]
 struct Told {
     feed: RequestFeed,
@@ -23,7 +23,7 @@ fn start(alloc: Global) -> Told {
     }
 }
 
-// takes what a piece brings, up to a bad message
+/// Takes what a piece brings, up to a bad message.
 fn add(told: &mut Told, piece: &[u8]) -> Result<(), Fail> {
     if !told.feed.has_room(piece.len()) {
         return Err("room")?;
@@ -75,7 +75,7 @@ fn read_bytes(alloc: Global, text: &[u8]) -> Result<String, Fail> {
     finish(told)
 }
 
-// A row is a text and what it is, each ended by a NUL.
+/// A row is a text and what it is, each ended by a NUL.
 const WHOLE_OR_UNFINISHED: &[u8] = b"\
     GET / HTTP/1.1\r\nHost: a\r\n\r\n\0message\0\
     GET / HTTP/1.1\nHost:\n\n\0message\0\
@@ -118,7 +118,7 @@ const REFUSED: &[u8] = b"\
     PUT / HTTP/1.1\r\nHost: a\r\nExpect: 100-continue\r\nExpect:\r\n\r\n\0bad 417 at 0\0\
 ";
 
-// a text whole, in two pieces at every place, and byte by byte
+/// Reads a text whole, in two pieces at every place, and byte by byte.
 fn read_row(rt: &impl Abort, alloc: Global, text: &[u8], want: &[u8]) -> Result<(), Fail> {
     for at in 0..=text.len() {
         let words = read_cut(alloc, &text[..at], &text[at..])?;
@@ -147,7 +147,7 @@ fn requests_are_the_same_in_any_cutting(rt: HostRuntime) -> Result<(), Fail> {
     read_rows(&rt, rt.alloc(), REFUSED)
 }
 
-// 16,384 bytes of a head and 66 line feeds pass, and one more does not
+/// 16,384 bytes of a head and 66 line feeds pass, and one more does not.
 #[test]
 fn heads_are_limited(rt: HostRuntime) -> Result<(), Fail> {
     let long: &[u8] = b"GET / HTTP/1.1\r\nHost: a\r\nX: ";

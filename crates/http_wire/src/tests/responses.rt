@@ -6,7 +6,7 @@ use std::fmt::Write;
 use std::process::Abort;
 use std::test::Fail;
 
-// what a feed gives, as words
+/// What a feed gives, as words.
 #[derive(Drop)]
 struct Told {
     feed: ResponseFeed,
@@ -30,7 +30,7 @@ fn tell(told: &mut Told, response: &Response) -> Result<(), Fail> {
     Ok(())
 }
 
-// takes what a piece brings, up to a fault
+/// Takes what a piece brings, up to a fault.
 fn add(told: &mut Told, piece: &[u8]) -> Result<(), Fail> {
     if !told.feed.has_room(piece.len()) {
         return Err("room")?;
@@ -53,7 +53,7 @@ fn add(told: &mut Told, piece: &[u8]) -> Result<(), Fail> {
     Ok(())
 }
 
-// what the end of the input tells
+/// Adds what the end of the input tells.
 fn finish(mut told: Told) -> Result<String, Fail> {
     if !told.over {
         told.words.push_str(" end")?;
@@ -82,7 +82,7 @@ fn read_bytes(alloc: Global, to_head: bool, text: &[u8]) -> Result<String, Fail>
     finish(told)
 }
 
-// A row is a text and what it is, each ended by a NUL.
+/// A row is a text and what it is, each ended by a NUL.
 const FRAMED_BY_LENGTH: &[u8] = b"\
     HTTP/1.1\0end bad 0\0\
     HTTP/1.1 200 O\0end bad 0\0\
@@ -117,7 +117,7 @@ const REFUSED_HEADS: &[u8] = b"\
 const CHUNKED_HEAD: &[u8] =
     b"HTTP/1.1 200 OK\r\nContent-Length: 9\r\nTransfer-Encoding: Chunked\r\n\r\n";
 
-// what follows that head of 66 bytes
+/// What follows that head of 66 bytes.
 const CHUNKED: &[u8] = b"\
     2\r\nok\r\n0\r\n\r\n\0200 ok end bad 78\0\
     1;a=\"b\"\r\no\r\n01 \t\r\nk\r\n0\r\nX: y\r\nz\n\n\0200 ok end bad 99\0\
@@ -141,14 +141,14 @@ const CHUNKED: &[u8] = b"\
     1\r\no\r\nffffffffffffffff\r\n\0bad 66\0\
 ";
 
-// to the method HEAD
+/// Rows of responses to the method HEAD.
 const TO_HEAD: &[u8] = b"\
     \r\nHTTP/1.1 200 OK\r\nContent-Length: 5\r\n\r\n\0200  end bad 40\0\
     \r\nHTTP/1.1 200 OK\r\nTransfer-Encoding: chunked\r\n\r\n\0200  end bad 49\0\
     \r\n\nHTTP/1.1 200 OK\r\n\r\n\0bad 0\0\
 ";
 
-// a text whole, in two pieces at every place, and byte by byte
+/// Reads a text whole, in two pieces at every place, and byte by byte.
 fn read_row(
     rt: &impl Abort,
     alloc: Global,
@@ -165,7 +165,7 @@ fn read_row(
     Ok(())
 }
 
-// the rows of a table, each text behind a front
+/// Reads the rows of a table, each text behind a front.
 fn read_rows(
     rt: &impl Abort,
     alloc: Global,
@@ -193,7 +193,7 @@ fn responses_are_the_same_in_any_cutting(rt: HostRuntime) -> Result<(), Fail> {
     read_rows(&rt, rt.alloc(), true, b"", TO_HEAD)
 }
 
-// heads, chunk lines and trailers of 16,384 bytes pass, and one byte more does not
+/// Heads, chunk lines and trailers of 16,384 bytes pass, and one byte more does not.
 #[test]
 fn parts_of_responses_are_limited(rt: HostRuntime) -> Result<(), Fail> {
     let head: &[u8] = b"HTTP/1.1 204 \r\nX: ";
@@ -229,7 +229,7 @@ fn any_number_of_informational_responses_is_passed_over(rt: HostRuntime) -> Resu
     Ok(())
 }
 
-// a body of 16,777,216 bytes up to the end of the input passes
+/// A body of 16,777,216 bytes up to the end of the input passes.
 #[test]
 fn a_body_may_have_16_mebibytes(rt: HostRuntime) -> Result<(), Fail> {
     let piece = repeated(rt.alloc(), b"", b"x", 65_536, b"")?;
