@@ -1,5 +1,5 @@
 //! The whole connection.
-ghost use Rattle.std.specs.Prelude.{◌≡◌, ◌<◌, ◌≤◌, ℕ, List, [], Some, Ok, Err, length};
+ghost use Rattle.std.specs.Prelude.{◌≡◌, ◌≢◌, ◌<◌, ◌≤◌, ℕ, List, [], Some, Ok, Err, length};
 ghost use Rattle.http_wire.specs.declared.request.Request.{Request};
 ghost use Rattle.http_wire.specs.Requests.{Cuts};
 ghost use Rattle.auth_io.specs.Causes.{Rose};
@@ -36,6 +36,9 @@ pub fn drive<L: Link, C: Clock, R: Responder>(
         → length requests < REQUEST_LIMIT → EndsWell result }
     ensures full { (input : List ℕ) (requests : List Request) → L.left link.old ≡ Some input → Cuts input requests []
         → length requests ≡ REQUEST_LIMIT → OnlyLastCloses requests → EndsAtLimit result }
+
+    // No draw failed, but where the connection ends by it.
+    ensures draws { result ≢ Err ServeError.RandomFault → R.failed_draws responder.new ≡ R.failed_draws responder.old }
 
     // No fault is answered without its cause, and no count of faults falls.
     ensures read_fault { result ≡ Err ServeError.ReadFault → Rose (L.read_faults link.old) (L.read_faults link.new) }

@@ -2,6 +2,7 @@
 use auth_grammar::Octets;
 use http_wire::Request;
 use std::alloc::Global;
+use thiserror::Error;
 
 /// The response to one request.
 #[derive(Drop)]
@@ -13,24 +14,28 @@ pub struct Response {
 }
 
 /// Why something that was asked of the outside has no answer.
-#[derive(Clone, Copy, Debug, PartialEq, Eq)]
+#[derive(Clone, Copy, Debug, PartialEq, Eq, Error)]
 pub enum Lack {
     /// The source of random words failed.
+    #[error("the source of random words failed")]
     Random,
     /// The table of nonces takes no more than `calls` calls.
+    #[error("the table of nonces takes no more than {calls} calls")]
     Worn { calls: u64 },
 }
 
 /// Why there is no response.
-#[derive(Clone, Copy, Debug, PartialEq, Eq)]
+#[derive(Clone, Copy, Debug, PartialEq, Eq, Error)]
 pub enum RespondError {
+    #[error(transparent)]
     Lacking(Lack),
+    #[error("out of memory")]
     OutOfMemory,
 }
 
 /// A server of requests, with the part of the outside that it uses.
 pub trait Responder {
-    ghost use Rattle.std.specs.Prelude.{Bool, ℕ, List, [], ◌∷◌, ◌++◌};
+    ghost use Rattle.std.specs.Prelude.{◌≡◌, ◌≢◌, Bool, ℕ, List, [], ◌∷◌, ◌++◌, Err};
     ghost use Rattle.connection_loop.specs.Machine.{Machine, Incoming, Responds};
     ghost use Rattle.connection_loop.specs.declared.responder.Lack.{Lack};
 
@@ -54,6 +59,9 @@ pub trait Responder {
     /// Between two moments this lack has come, at this ask.
     ghost lacked: { Self → Self → Lack → Self.Ask → Type 0 };
 
+    /// How many draws of its random source have failed.
+    ghost failed_draws: { Self → ℕ };
+
     /// Answers a request at a moment. `last` says that the connection closes after it.
     fn respond(
         &mut self,
@@ -64,7 +72,8 @@ pub trait Responder {
     ) -> Result<Response, RespondError>
         ensures responds { (events : List Self.Event) × passed self.old self.new events
             × Responds machine (lacked self.old self.new) (state self.old) (state self.new)
-            (record { request = request.now; last = last; moment = moment }) events result };
+            (record { request = request.now; last = last; moment = moment }) events result }
+        ensures draws { result ≢ Err (RespondError.Lacking Lack.Random) → failed_draws self.new ≡ failed_draws self.old };
 
     ghost passed_none: { (a : Self) → passed a a [] };
 

@@ -1,5 +1,5 @@
 //! One message, from its bytes to its reply.
-ghost use Rattle.std.specs.Prelude.{◌≡◌, ◌-◌, ◌∷◌, [], ◌++◌, ◌<◌, ◌≤◌, ◌+◌, ℕ, List, Ok, Err, length, IfOk, OnOk};
+ghost use Rattle.std.specs.Prelude.{◌≡◌, ◌≢◌, ◌-◌, ◌∷◌, [], ◌++◌, ◌<◌, ◌≤◌, ◌+◌, ℕ, List, Ok, Err, length, IfOk, OnOk};
 ghost use Rattle.auth_io.specs.Causes.{Rose};
 ghost use Rattle.auth_io.specs.Told.{Adds};
 ghost use Rattle.http_wire.specs.Requests.{Wrong, front};
@@ -49,6 +49,7 @@ fn serve_request<L: Link, C: Clock, R: Responder>(
         × R.passed responder.old responder.new events
         × Serves R.machine (R.lacked responder.old responder.new) (R.state responder.old) (R.state responder.new)
         (record { request = request.now; last = last; moment = moment }) (request_account output moment events) result }
+    ensures draws { result ≢ Err ServeError.RandomFault → R.failed_draws responder.new ≡ R.failed_draws responder.old }
     ensures few { IfOk result (λ count. count ≤ 1) }
     ensures given { L.given link.new ≡ L.given link.old }
     ensures read_faults { L.read_faults link.new ≡ L.read_faults link.old }
@@ -66,7 +67,7 @@ fn serve_request<L: Link, C: Clock, R: Responder>(
     Ok(count_of(&response))
 }
 
-// the reply to a bad message
+/// The reply to a bad message.
 fn refusal_text(
     alloc: Global,
     status: u16,
@@ -111,7 +112,7 @@ fn refuse<L: Link, C: Clock>(
     write_all(link, text.bytes())
 }
 
-// whether the connection closes after this request
+/// Whether the connection closes after this request.
 fn closes_after(closing: bool, requests: u32) -> bool
     requires { requests < REQUEST_LIMIT }
     ensures { result ≡ is_last closing (REQUEST_LIMIT - (requests + 1)) }
@@ -119,7 +120,7 @@ fn closes_after(closing: bool, requests: u32) -> bool
     closing || requests + 1 == REQUEST_LIMIT
 }
 
-// what comes after a request was answered
+/// What comes after a request was answered.
 fn after_request(closing: bool, one: u32, requests: u32, admitted: u32) -> Step
     requires room { requests < REQUEST_LIMIT }
     requires counted { admitted ≤ requests }
@@ -156,6 +157,7 @@ pub fn serve_next<L: Link, C: Clock, R: Responder>(
         StepsFrom R.machine (R.lacked responder.old responder.new) (R.passed responder.old responder.new) (at link.old) (at link.new)
         (Adds (C.shown clock.old) (C.shown clock.new)) (place_at (R.state responder.old) feed.old requests admitted)
         (R.state responder.new) feed.new result }
+    ensures draws { result ≢ Err ServeError.RandomFault → R.failed_draws responder.new ≡ R.failed_draws responder.old }
     ensures few { AdmitsOne result }
     ensures at_end { StepLeavesNone (L.left link.new) result }
     ensures within { OnOk result (feed.new.at + length feed.new.rest ≤ L.given link.new) }

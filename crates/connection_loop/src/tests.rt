@@ -29,6 +29,8 @@ impl Responder for Echo {
 
     ghost lacked = { λ a b lack ask. ⊥ };
 
+    ghost failed_draws = { λ _. 0 };
+
     fn respond(
         &mut self,
         _alloc: Global,

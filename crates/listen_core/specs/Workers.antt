@@ -15,6 +15,7 @@ use Rattle.request_deciding.specs.declared.events.Event.{Event}
 use Rattle.request_deciding.specs.declared.events.Operation.{Operation}
 use Rattle.request_deciding.specs.declared.server.Server.{Server}
 use Rattle.worker_loop.specs.Connections.{WorkerState, worker_state}
+use Rattle.worker_loop.specs.Ends.{DrawsWell}
 use Rattle.worker_loop.specs.Service.{Service, service_of}
 use Rattle.listen_core.specs.Service.{outside_at, shards_of}
 use Rattle.listen_core.specs.declared.server.OriginServer.{OriginServer}
@@ -41,7 +42,7 @@ abbrev pub origin_service : {F C W T : Type 0} → (F → Option Contents) → (
 origin_service contents asked file_faults shown drawn random_faults seat site =
     let at = outside_at contents asked file_faults drawn random_faults seat in
     service_of origin (λ s. server site (shards_of seat s)) (λ s. shown s.clock) (λ a b. Passed (at a) (at b))
-    (λ a b. LackedBy (at a).table (at b).table) (λ a b result. Unit {0})
+    (λ a b. LackedBy (at a).table (at b).table) (λ a b. DrawsWell (random_faults a.random) (random_faults b.random))
 
 -- The seat notes of one of its shards that this is at its limit.
 abbrev pub NotesLimit : Seat → Seat → Type 0

@@ -27,6 +27,7 @@ impl<F: Files, C: Clock, W: Words, T: TableSeat> Server for OriginServer<F, C, W
     ghost use Rattle.request_deciding.specs.Laws.{lacked_later};
     ghost use Rattle.request_deciding.specs.Outside.{LackedBy};
     ghost use Rattle.request_deciding.specs.Serving.{server};
+    ghost use Rattle.worker_loop.specs.Ends.{DrawsWell};
 
     type Site = Site;
 
@@ -46,7 +47,7 @@ impl<F: Files, C: Clock, W: Words, T: TableSeat> Server for OriginServer<F, C, W
 
     ghost lacked = { λ a b. let at = outside_at F.contents F.asked F.faults W.drawn W.faults T.seat in LackedBy (at a).table (at b).table };
 
-    ghost ends = { λ _ _ _. Unit {0} };
+    ghost ends = { λ a b. DrawsWell (W.faults a.random) (W.faults b.random) };
 
     fn serve<L: Link>(
         &mut self,

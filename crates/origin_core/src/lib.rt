@@ -12,6 +12,7 @@ mod serving;
 
 pub use alone::{CONNECTION_CALLS, serve_alone};
 pub use carrying::{FILE_LIMIT, reply_for};
+pub use connection_loop::{End, ServeError, Served};
 pub use events::{FileEvent, FileOperation};
 pub use names::file_name;
 pub use serving::serve_connection;

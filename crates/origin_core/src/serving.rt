@@ -1,5 +1,5 @@
 //! Serving one connection.
-ghost use Rattle.std.specs.Prelude.{◌≡◌, List};
+ghost use Rattle.std.specs.Prelude.{◌≡◌, ◌≢◌, Err, List};
 ghost use Rattle.auth_io.specs.Causes.{Rose};
 ghost use Rattle.connection_loop.specs.Account.{link_of};
 ghost use Rattle.connection_loop.specs.Machine.{Responds};
@@ -16,7 +16,7 @@ use crate::events::{FileEvent, FileOperation};
 use auth_decide::Site;
 use auth_grammar::Role;
 use auth_io::{Clock, Files, Link, Words};
-use connection_loop::{RespondError, Responder, Response, ServeError, Served, drive};
+use connection_loop::{Lack, RespondError, Responder, Response, ServeError, Served, drive};
 use http_wire::Request;
 use nonce_shard::TableSeat;
 use request_deciding::{Event, IncomingRequest, Operation, Server, decide};
@@ -36,6 +36,7 @@ fn answer<F: Files, W: Words, T: TableSeat>(
         (events : List (Event FileEvent)) × Passed (at files.old random.old seat.old) (at files.new random.new seat.new) events
         × Responds origin (LackedBy (at files.old random.old seat.old).table (at files.new random.new seat.new).table)
         server_now server_now (incoming_of incoming.now) events result }
+    ensures draws { result ≢ Err (RespondError.Lacking Lack.Random) → W.faults random.new ≡ W.faults random.old }
 {
     let verdict = decide(alloc, Role::Origin, incoming, site, random, seat)?;
     match reply_for(alloc, incoming, site.root.bytes(), verdict, files) {
@@ -82,6 +83,8 @@ impl<'s, 'f, 'w, 't, F: Files, W: Words, T: TableSeat> Responder
 
     ghost lacked = { λ a b. let at = outside_at F.contents F.asked F.faults W.drawn W.faults T.seat in
         LackedBy (at a.files.now a.random.now a.seat.now).table (at b.files.now b.random.now b.seat.now).table };
+
+    ghost failed_draws = { λ p. W.faults p.random.now };
 
     fn respond(
         &mut self,
@@ -147,6 +150,9 @@ pub fn serve_connection<L: Link, F: Files, C: Clock, W: Words, T: TableSeat>(
         let at = outside_at F.contents F.asked F.faults W.drawn W.faults T.seat in
         ServesConnection (at files.old random.old seat.old) (at files.new random.new seat.new) (link_at link.old) (link_at link.new)
         (C.shown clock.old) (C.shown clock.new) (server site.now (T.seat seat.old).shards) result }
+
+    // No draw failed, but where the connection ends by it.
+    ensures draws { result ≢ Err ServeError.RandomFault → W.faults random.new ≡ W.faults random.old }
 
     // No fault is answered without its cause.
     ensures read_fault { result ≡ Err ServeError.ReadFault → Rose (L.read_faults link.old) (L.read_faults link.new) }

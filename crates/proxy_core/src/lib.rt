@@ -10,6 +10,7 @@ mod serving;
 mod site;
 mod targets;
 
+pub use connection_loop::{End, ServeError, Served};
 pub use demand::Demand;
 pub use laws::{dials_only_admitted, sends_no_credentials};
 pub use serving::proxy_connection;

@@ -1,5 +1,5 @@
 //! Serving one connection.
-ghost use Rattle.std.specs.Prelude.{◌≡◌, ◌≤◌, IsTrue, List, Some, None, IfSome};
+ghost use Rattle.std.specs.Prelude.{◌≡◌, ◌≤◌, IsTrue, List, Some, None, IfSome, ◌≢◌, Err};
 ghost use Rattle.auth_io.specs.Causes.{Rose};
 ghost use Rattle.connection_loop.specs.Account.{link_of};
 ghost use Rattle.connection_loop.specs.Machine.{Responds};
@@ -23,7 +23,7 @@ use crate::targets::authority_of;
 use auth_decide::{Site, Verdict};
 use auth_grammar::{OutOfMemory, Role};
 use auth_io::{Clock, Dial, Link, Words};
-use connection_loop::{RespondError, Responder, Response, ServeError, Served, drive};
+use connection_loop::{Lack, RespondError, Responder, Response, ServeError, Served, drive};
 use dial_exchange::{DialEvent, make_exchange};
 use http_wire::Request;
 use nonce_shard::TableSeat;
@@ -95,6 +95,7 @@ fn answer_to<D: Dial, W: Words, T: TableSeat>(
         (events : List (Event DialEvent)) × Passed (at dial.old random.old seat.old) (at dial.new random.new seat.new) events
         × Responds proxy (LackedBy (at dial.old random.old seat.old).table (at dial.new random.new seat.new).table)
         server_now server_now (incoming_of incoming.now) events result }
+    ensures draws { result ≢ Err (RespondError.Lacking Lack.Random) → W.faults random.new ≡ W.faults random.old }
 {
     let verdict = decide(alloc, Role::Proxy, incoming, site, random, seat)?;
     match carry_out(alloc, incoming, authority, verdict, dial) {
@@ -117,6 +118,7 @@ fn answer<D: Dial, W: Words, T: TableSeat>(
         (events : List (Event DialEvent)) × Passed (at dial.old random.old seat.old) (at dial.new random.new seat.new) events
         × Responds proxy (LackedBy (at dial.old random.old seat.old).table (at dial.new random.new seat.new).table)
         server_now server_now (incoming_of incoming.now) events result }
+    ensures draws { result ≢ Err (RespondError.Lacking Lack.Random) → W.faults random.new ≡ W.faults random.old }
 {
     match authority_of(incoming.request.target.bytes()) {
         Some(authority) => answer_to(alloc, incoming, authority, site, dial, random, seat),
@@ -164,6 +166,8 @@ impl<'s, 'd, 'w, 't, D: Dial, W: Words, T: TableSeat> Responder for Parts<'s, 'd
 
     ghost lacked = { λ a b. let at = outside_at D.dialled D.coming D.handed D.faults D.link_faults W.drawn W.faults T.seat in
         LackedBy (at a.dial.now a.random.now a.seat.now).table (at b.dial.now b.random.now b.seat.now).table };
+
+    ghost failed_draws = { λ p. W.faults p.random.now };
 
     fn respond(
         &mut self,
@@ -225,6 +229,9 @@ pub fn proxy_connection<L: Link, D: Dial, C: Clock, W: Words, T: TableSeat>(
         let before = at dial.old random.old seat.old in let now = at dial.new random.new seat.new in
         let s = server site.now (T.seat seat.old).shards in
         ServesConnection before now (link_at link.old) (link_at link.new) (C.shown clock.old) (C.shown clock.new) s result }
+
+    // No draw failed, but where the connection ends by it.
+    ensures draws { result ≢ Err ServeError.RandomFault → W.faults random.new ≡ W.faults random.old }
 
     // No fault is answered without its cause.
     ensures read_fault { result ≡ Err ServeError.ReadFault → Rose (L.read_faults link.old) (L.read_faults link.new) }

@@ -14,6 +14,7 @@ use Rattle.request_deciding.specs.declared.events.Event.{Event}
 use Rattle.request_deciding.specs.declared.events.Operation.{Operation}
 use Rattle.request_deciding.specs.declared.server.Server.{Server}
 use Rattle.worker_loop.specs.Connections.{WorkerState, worker_state}
+use Rattle.worker_loop.specs.Ends.{DrawsWell}
 use Rattle.worker_loop.specs.Service.{Service, service_of}
 use Rattle.proxy_listen.specs.Service.{outside_at, shards_of}
 use Rattle.proxy_listen.specs.declared.server.ProxyServer.{ProxyServer}
@@ -42,7 +43,7 @@ proxy_service dialled coming handed dial_faults link_faults shown drawn random_f
     let at = outside_at dialled coming handed dial_faults link_faults drawn random_faults seat in
     service_of proxy (λ s. server site (shards_of seat s)) (λ s. shown s.clock)
     (λ a b events. (b.files ≡ a.files) × Passed (at a) (at b) events)
-    (λ a b. LackedBy (at a).table (at b).table) (λ a b result. Unit {0})
+    (λ a b. LackedBy (at a).table (at b).table) (λ a b. DrawsWell (random_faults a.random) (random_faults b.random))
 
 -- The seat notes of one of its shards that this is at its limit.
 abbrev pub NotesLimit : Seat → Seat → Type 0

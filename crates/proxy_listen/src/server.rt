@@ -30,6 +30,7 @@ impl<N: Dial, F, C: Clock, W: Words, T: TableSeat> Server for ProxyServer<N, F, 
     ghost use Rattle.proxy_core.specs.Outside.{Passed};
     ghost use Rattle.proxy_core.specs.Serving.{proxy};
     ghost use Rattle.proxy_listen.specs.Service.{outside_at, shards_of};
+    ghost use Rattle.worker_loop.specs.Ends.{DrawsWell};
 
     type Site = ProxySite;
 
@@ -51,7 +52,7 @@ impl<N: Dial, F, C: Clock, W: Words, T: TableSeat> Server for ProxyServer<N, F, 
     ghost lacked = { λ a b. let at = outside_at N.dialled N.coming N.handed N.faults N.link_faults W.drawn W.faults T.seat in
         LackedBy (at a).table (at b).table };
 
-    ghost ends = { λ _ _ _. Unit {0} };
+    ghost ends = { λ a b. DrawsWell (W.faults a.random) (W.faults b.random) };
 
     fn serve<L: Link>(
         &mut self,

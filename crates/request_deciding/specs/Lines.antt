@@ -1,32 +1,15 @@
--- What a reply says of the authentication (RFC 9110 sections 11.6 and 11.7, RFC 8053 section 3, RFC 7615).
-use Rattle.std.specs.Prelude.{ℕ, Bool, true, false, List, [], ◌∷◌, map, codes}
+-- What a reply says of the authentication.
+use Rattle.std.specs.Prelude.{ℕ, Bool, true, false, List, [], ◌∷◌, map}
+use Rattle.auth_grammar.specs.RoleFields.{challenge_name, info_name, offer_name}
 use Rattle.auth_grammar.specs.Writing.{items_text, params_text}
 use Rattle.auth_grammar.specs.declared.items.Item.{Item}
 use Rattle.auth_grammar.specs.declared.items.Quoting.TheVariants as quoting
 use Rattle.auth_grammar.specs.declared.items.Role.{Role}
-use Rattle.auth_grammar.specs.declared.items.Role.TheVariants.{Origin, Proxy}
 use Rattle.auth_decide.specs.Infos.{info_of}
 use Rattle.auth_decide.specs.declared.info.Proof.{Proof}
 use Rattle.auth_decide.specs.declared.verdict.Verdict.{Verdict}
 use Rattle.auth_decide.specs.declared.verdict.Verdict.TheVariants.{Admit, Open, Challenge, Continue, Bad}
 use Rattle.http_wire.specs.declared.pair.Pair.{Pair}
-
--- ---- the names of the fields
-
-abbrev pub challenge_name : Role → List ℕ
-challenge_name Origin = codes "WWW-Authenticate"
-challenge_name Proxy = codes "Proxy-Authenticate"
-
--- what is offered where no user is needed; a proxy, which always needs one, challenges
-abbrev pub offer_name : Role → List ℕ
-offer_name Origin = codes "Optional-WWW-Authenticate"
-offer_name Proxy = codes "Proxy-Authenticate"
-
-abbrev pub info_name : Role → List ℕ
-info_name Origin = codes "Authentication-Info"
-info_name Proxy = codes "Proxy-Authentication-Info"
-
--- ---- lines
 
 abbrev pub pair : List ℕ → List ℕ → Pair
 pair name value = record { name = name; value = value }

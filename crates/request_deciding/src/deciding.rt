@@ -1,5 +1,5 @@
 //! The decision for a request, with the calls that it asks for.
-ghost use Rattle.std.specs.Prelude.{◌≡◌};
+ghost use Rattle.std.specs.Prelude.{◌≡◌, ◌≢◌, Err};
 ghost use Rattle.auth_grammar.specs.declared.items.Role.{Role};
 ghost use Rattle.connection_loop.specs.Machine.{Incoming};
 ghost use Rattle.request_deciding.specs.Deciding.{Decides, IsUnderWay};
@@ -30,6 +30,8 @@ pub fn decide<W: Words, T: TableSeat>(
     ensures decided { let at = table_state W.drawn W.faults T.seat in
         Decides (at random.old seat.old) (at random.new seat.new) role (server site.now (T.seat seat.old).shards)
         (incoming_of incoming.now) result }
+    // No draw failed, but where the words are lacking.
+    ensures draws { result ≢ Err (RespondError.Lacking Lack.Random) → W.faults random.new ≡ W.faults random.old }
 {
     let shards = seat.shards();
     match Decision::start(alloc, role, incoming.request, incoming.moment, site, shards) {
@@ -53,6 +55,7 @@ fn run<W: Words, T: TableSeat>(
     ensures decided { let at = table_state W.drawn W.faults T.seat in
         (before : TableState) (role : Role) (s : Server) (t : Incoming) → IsUnderWay before (at random.old seat.old) role s t decision.old
         → Decides before (at random.new seat.new) role s t result }
+    ensures draws { result ≢ Err (RespondError.Lacking Lack.Random) → W.faults random.new ≡ W.faults random.old }
 {
     loop {
         match decision.next(alloc) {

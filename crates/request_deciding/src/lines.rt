@@ -1,38 +1,11 @@
 //! What a reply says of the authentication.
 ghost use Rattle.std.specs.Prelude.{◌≡◌, ◌++◌, ◌∷◌, [], IfOk, OnOk, map};
-ghost use Rattle.request_deciding.specs.Lines.{challenge_name, offer_name, info_name, item_line, info_line, verdict_lines, is_admitted};
+ghost use Rattle.request_deciding.specs.Lines.{item_line, info_line, verdict_lines, is_admitted};
 
 use auth_decide::{Proof, Verdict};
 use auth_grammar::{Item, ItemList, Octets, OutOfMemory, Quoting, Role, write_items, write_params};
 use http_wire::{Pair, PairList};
 use std::alloc::Global;
-
-fn challenge_name(role: Role) -> &'static [u8]
-    ensures { result.now ≡ challenge_name role }
-{
-    match role {
-        Role::Origin => b"WWW-Authenticate",
-        Role::Proxy => b"Proxy-Authenticate",
-    }
-}
-
-fn offer_name(role: Role) -> &'static [u8]
-    ensures { result.now ≡ offer_name role }
-{
-    match role {
-        Role::Origin => b"Optional-WWW-Authenticate",
-        Role::Proxy => b"Proxy-Authenticate",
-    }
-}
-
-fn info_name(role: Role) -> &'static [u8]
-    ensures { result.now ≡ info_name role }
-{
-    match role {
-        Role::Origin => b"Authentication-Info",
-        Role::Proxy => b"Proxy-Authentication-Info",
-    }
-}
 
 /// The line of one item.
 fn item_line(alloc: Global, name: &[u8], item: Item) -> Result<Pair, OutOfMemory>
@@ -73,7 +46,7 @@ fn info_line(alloc: Global, role: Role, proof: &Proof, body: &[u8]) -> Result<Pa
 {
     let params = proof.info(alloc, body)?;
     let value = write_params(alloc, &params, Quoting::Info)?;
-    let name = Octets::of(alloc, info_name(role))?;
+    let name = Octets::of(alloc, role.info_name())?;
     Ok(Pair { name, value })
 }
 
@@ -102,9 +75,9 @@ pub fn put_verdict(
 {
     match verdict {
         Verdict::Admit { proof, .. } => put_info(alloc, lines, role, &proof, body),
-        Verdict::Open { items } => put_items(alloc, lines, offer_name(role), items),
-        Verdict::Challenge { items } => put_items(alloc, lines, challenge_name(role), items),
-        Verdict::Continue { item } => put_item(alloc, lines, challenge_name(role), item),
+        Verdict::Open { items } => put_items(alloc, lines, role.offer_name(), items),
+        Verdict::Challenge { items } => put_items(alloc, lines, role.challenge_name(), items),
+        Verdict::Continue { item } => put_item(alloc, lines, role.challenge_name(), item),
         Verdict::Bad { .. } => Ok(()),
     }
 }

@@ -1,5 +1,5 @@
 -- How a worker ends, and several of them.
-use Rattle.std.specs.Prelude.{ℕ, Bool, true, false, nat_lt, if◌then◌else◌, List, [], ◌∷◌, Result, Ok, Err}
+use Rattle.std.specs.Prelude.{◌≡◌, ◌≢◌, ℕ, Bool, true, false, nat_lt, if◌then◌else◌, List, [], ◌∷◌, Result, Ok, Err}
 use Rattle.connection_loop.specs.declared.served.Served.{Served}
 use Rattle.connection_loop.specs.declared.served.ServeError.{ServeError}
 use Rattle.connection_loop.specs.declared.served.ServeError.TheVariants.{Truncated, ReadFault, WriteFault, RandomFault, Worn, OutOfMemory}
@@ -22,6 +22,10 @@ abbrev pub is_no_memory : After → Bool
 is_no_memory Next = false
 is_no_memory NoMemory = true
 is_no_memory Stop = false
+
+-- No draw of random words failed, by their count before and after, but where the connection ended by it.
+abbrev pub DrawsWell : ℕ → ℕ → Result Served ServeError → Type 0
+DrawsWell before now result = result ≢ Err RandomFault → now ≡ before
 
 -- how bad an end is
 abbrev pub rank : Finish → ℕ

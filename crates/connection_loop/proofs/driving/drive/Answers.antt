@@ -1,4 +1,4 @@
-use Rattle.std.proofs.Common.{◌≡◌, ap, Ok, Err, arith, rules}
+use Rattle.std.proofs.Common.{◌≡◌, ◌∙◌, refl, ap, Ok, Err, arith, rules}
 use Rattle.std.proofs.lemmas.Result.{err_from_is_err_and}
 use Rattle.auth_io.proofs.Passing.{Adds_trans, Adds_none}
 use Rattle.http_wire.specs.RequestFeed.{Held}
@@ -25,6 +25,7 @@ loop-requests-init g c =
       record {
         read = search rules;
         write = search rules;
+        draws = refl;
         few = search rules;
         between = record { fresh = ap (λ (h : Held). h.told) is; going = ap (λ (h : Held). h.stopped) is };
         within = rw is (omega arith);
@@ -52,6 +53,7 @@ loop-requests-preserved g c =
       record {
         read = omega (arith, later.read, c.serve_next.ensures.read_later);
         write = omega (arith, later.write, c.serve_next.ensures.write_later);
+        draws = c.in_ok-one.ensures.draws (λ e. cc) ∙ later.draws;
         few = omega (arith, few, later.few);
         between = took.steps.between;
         within = c.in_ok-one.ensures.within;

@@ -1,4 +1,4 @@
-use Rattle.std.proofs.Common.{◌≤◌, ◌+◌, ℕ, List, length}
+use Rattle.std.proofs.Common.{◌≡◌, ◌≤◌, ◌+◌, ℕ, List, length}
 use Rattle.std.specs.List.{AllByRecursion}
 use Rattle.auth_io.specs.Told.{Adds}
 use Rattle.http_wire.specs.RequestFeed.{Held}
@@ -18,10 +18,11 @@ pub record SoFar {S Q E : Type 0} (m : Machine S Q E) (passed : List E → Type 
   pub prompt : AllByRecursion (IsPrompt m before account) account.reads
   pub reached : Reached m before now account held requests admitted
 
--- no count has fallen, and the feed stands between two messages
-pub record Later (a a' b b' requests admitted given : ℕ) (held : Held) : Type 0 where
+-- no count has fallen, no draw has failed, and the feed stands between two messages
+pub record Later (a a' b b' d d' requests admitted given : ℕ) (held : Held) : Type 0 where
   pub read : a ≤ a'
   pub write : b ≤ b'
+  pub draws : d' ≡ d
   pub few : admitted ≤ requests
   pub between : IsBetween held
   pub within : held.at + length held.rest ≤ given
@@ -32,4 +33,5 @@ invariant-loop-requests g l =
     SoFar {Q = g.row.R-Ask.Denot} g.R.Responder.machine (g.R.Responder.passed l.initial.responder l.responder) (at l.initial.link) (at l.link)
     (Adds (g.C.Clock.shown l.initial.clock) (g.C.Clock.shown l.clock)) (g.R.Responder.state l.initial.responder) (g.R.Responder.state l.responder) l.feed l.requests l.admitted
     × Later (g.L.Link.read_faults l.initial.link) (g.L.Link.read_faults l.link) (g.L.Link.write_faults l.initial.link) (g.L.Link.write_faults l.link)
+    (g.R.Responder.failed_draws l.initial.responder) (g.R.Responder.failed_draws l.responder)
     l.requests l.admitted (g.L.Link.given l.link) l.feed

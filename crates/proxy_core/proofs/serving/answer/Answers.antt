@@ -5,14 +5,14 @@ use Rattle.proxy_core.specs.Outside.{outside_at}
 use Rattle.proxy_core.specs.Targets.{authority_of}
 use Rattle.proxy_core.proofs.serving.answer.Goals as goal
 
-pub returns-in-Ok : goal.returns-in-Ok
-returns-in-Ok g c =
+pub returns-in-Ok-clause-answers : goal.returns-in-Ok-clause-answers
+returns-in-Ok-clause-answers g c =
     let at = outside_at g.D.Dial.dialled g.D.Dial.coming g.D.Dial.handed g.D.Dial.faults g.D.Dial.link_faults g.W.Words.drawn g.W.Words.faults g.T.TableSeat.seat in
     let none : authority_of c.args.incoming.now.request.now.target ≡ None = search rules in
-    record { answers = answers_no_target (at c.args.dial.now c.args.random.now c.args.seat.now) (server c.args.site.now (g.T.TableSeat.seat c.args.seat.now).shards) (incoming_of c.args.incoming.now) (Ok c.in-Ok.reply) none c.in-Ok.ensures }
+    answers_no_target (at c.args.dial.now c.args.random.now c.args.seat.now) (server c.args.site.now (g.T.TableSeat.seat c.args.seat.now).shards) (incoming_of c.args.incoming.now) (Ok c.in-Ok.reply) none c.in-Ok.ensures
 
-pub returns-in-Err : goal.returns-in-Err
-returns-in-Err g c =
+pub returns-in-Err-clause-answers : goal.returns-in-Err-clause-answers
+returns-in-Err-clause-answers g c =
     let at = outside_at g.D.Dial.dialled g.D.Dial.coming g.D.Dial.handed g.D.Dial.faults g.D.Dial.link_faults g.W.Words.drawn g.W.Words.faults g.T.TableSeat.seat in
     let none : authority_of c.args.incoming.now.request.now.target ≡ None = search rules in
-    record { answers = answers_no_target (at c.args.dial.now c.args.random.now c.args.seat.now) (server c.args.site.now (g.T.TableSeat.seat c.args.seat.now).shards) (incoming_of c.args.incoming.now) (Err c.in-Err.field-0) none c.in-Err.ensures }
+    answers_no_target (at c.args.dial.now c.args.random.now c.args.seat.now) (server c.args.site.now (g.T.TableSeat.seat c.args.seat.now).shards) (incoming_of c.args.incoming.now) (Err c.in-Err.field-0) none c.in-Err.ensures
