@@ -14,11 +14,11 @@ use Rattle.nonce_shard.specs.declared.sizes.Sizes.{Sizes}
 use Rattle.spaces_map.specs.declared.space.Mode.{Mode}
 use Rattle.spaces_map.specs.declared.space.Mode.TheVariants as mode
 use Rattle.spaces_map.specs.declared.space.Space.{Space}
+use Rattle.scram_text.specs.Items.{scram_scheme}
 use Rattle.auth_decide.proofs.Folds.{asked_at}
 use Rattle.auth_decide.specs.Asks.{ask_in as asked_in, asked, use_of}
 use Rattle.auth_decide.specs.Candidates.{candidate_of, is_offered, user_of, with_secret, with_user}
 use Rattle.auth_decide.specs.Credentials.{Reads, credentials_lines, other_scheme, presented, presented_digest}
-use Rattle.auth_decide.specs.Messages.{scram_scheme}
 use Rattle.auth_decide.specs.Paths.{correspond}
 use Rattle.auth_decide.specs.Stages.{Question, digest_stage, first_stage, first_stage_in, mode_stage, name_within, presented_stage, protection_space, stage_at, taken_stage}
 use Rattle.auth_decide.specs.VerifiedCredentials.{verified}

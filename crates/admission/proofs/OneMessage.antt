@@ -9,9 +9,10 @@ use Rattle.auth_grammar.specs.declared.items.Param.{Param}
 use Rattle.nonce_shard.proofs.OneName.{names_one}
 use Rattle.nonce_shard.specs.declared.names.TableName.{TableName}
 use Rattle.scram_text.proofs.ReauthLaws.{decimal_digits, one_cut, same_ends}
+use Rattle.scram_text.specs.Bytes.{base64_bytes}
 use Rattle.scram_text.specs.ClientFinals.{ClientFinalParts}
 use Rattle.scram_text.specs.Reauths.{IsReauth}
-use Rattle.auth_decide.specs.Messages.{DataSays, FinalSays, FirstSays, IsFinal, MissesSid, Names, SaysAgain, SaysMessage, TextSays, bytes_of, final_parts, first_message}
+use Rattle.auth_decide.specs.Messages.{DataSays, FinalSays, FirstSays, IsFinal, MissesSid, Names, SaysAgain, SaysMessage, TextSays, final_parts, first_message}
 use Rattle.auth_decide.specs.declared.scram_message.Again.{Again}
 use Rattle.auth_decide.specs.declared.scram_message.FinalMessage.{FinalMessage}
 use Rattle.auth_decide.specs.declared.scram_message.ScramMessage.{ScramMessage}
@@ -101,4 +102,4 @@ one_data sid realm (Some text) a b one two = one_text sid realm text a b one two
 pub one_message : (o : Option (List Param)) (a b : ScramMessage) → SaysMessage o a → SaysMessage o b → a ≡ b
 one_message None a b one two = one ∙ sym two
 one_message (Some params) a b one two =
-    one_data (value_of (codes "sid") params) (value_of (codes "realm") params) (option_and_then bytes_of (value_of (codes "data") params)) a b one two
+    one_data (value_of (codes "sid") params) (value_of (codes "realm") params) (option_and_then base64_bytes (value_of (codes "data") params)) a b one two

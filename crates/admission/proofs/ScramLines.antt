@@ -11,11 +11,13 @@ use Rattle.digest_fields.specs.declared.field.FieldError.{FieldError}
 use Rattle.nonce_shard.proofs.OneName.{names_one}
 use Rattle.nonce_shard.specs.Names.{IsName, name_text}
 use Rattle.nonce_shard.specs.declared.names.TableName.{TableName}
+use Rattle.scram_text.specs.Bytes.{base64_bytes}
 use Rattle.scram_text.specs.ClientFinals.{ClientFinalParts, SpellsClientFinal}
+use Rattle.scram_text.specs.Items.{scram_scheme}
 use Rattle.spaces_map.specs.declared.space.Space.{Space}
 use Rattle.auth_decide.specs.Challenges.{offers_scram}
 use Rattle.auth_decide.specs.Credentials.{LinesSay, Reads, credentials_lines, other_scheme, presented, presented_digest}
-use Rattle.auth_decide.specs.Messages.{DataSays, FinalSays, IsFinal, MissesSid, Names, ParamsSay, SaysAgain, SaysMessage, bytes_of, final_parts, scram_params, scram_scheme}
+use Rattle.auth_decide.specs.Messages.{DataSays, FinalSays, IsFinal, MissesSid, Names, ParamsSay, SaysAgain, SaysMessage, final_parts, scram_params}
 use Rattle.auth_decide.specs.Stages.{Question, attempt_stage, final_stage, first_stage, first_stage_in, message_stage, presented_stage, protection_space, scram_stage, challenge_stage}
 use Rattle.auth_decide.specs.declared.credentials.CredentialsField.{CredentialsField}
 use Rattle.auth_decide.specs.declared.credentials.CredentialsField.TheVariants as field
@@ -70,7 +72,7 @@ to_final_read q space sid m w reads =
     let by_field = subst (λ (f : CredentialsField). SaysMessage (scram_params f) q.credentials.scram) is reads.scram in
     let by_params : ParamsSay params q.credentials.scram = subst (λ (b : Bool). SaysMessage (if b then Some params else None) q.credentials.scram) w.scram by_field in
     let realm = value_of (codes "realm") params in
-    let by_sid = subst (λ (o : Option (List ℕ)). DataSays o realm (option_and_then bytes_of (value_of (codes "data") params)) q.credentials.scram) w.named by_params in
+    let by_sid = subst (λ (o : Option (List ℕ)). DataSays o realm (option_and_then base64_bytes (value_of (codes "data") params)) q.credentials.scram) w.named by_params in
     let by_data : FinalSays (name_text sid) w.text q.credentials.scram = subst (λ (o : Option (List ℕ)). DataSays (Some (name_text sid)) realm o q.credentials.scram) w.encoded by_sid in
     let said = final_said sid w.text m w.form w.spells q.credentials.scram by_data in
     record {
@@ -135,7 +137,7 @@ from_final_read q space sid m again reads presents_it said place offered =
     let by_field = subst (λ (f : CredentialsField). SaysMessage (scram_params f) q.credentials.scram) p.spelled reads.scram in
     let by_params : ParamsSay params q.credentials.scram = subst (λ (b : Bool). SaysMessage (if b then Some params else None) q.credentials.scram) p.scram by_field in
     let final : ParamsSay params (message.Final (Some sid) m again) = subst (λ (x : ScramMessage). ParamsSay params x) said by_params in
-    let f = data_final (value_of (codes "sid") params) (value_of (codes "realm") params) (option_and_then bytes_of (value_of (codes "data") params)) (Some sid) m again final in (
+    let f = data_final (value_of (codes "sid") params) (value_of (codes "realm") params) (option_and_then base64_bytes (value_of (codes "data") params)) (Some sid) m again final in (
       record {
         line = one.0;
         item = p.item;

@@ -18,8 +18,10 @@ use Rattle.nonce_shard.specs.declared.names.TableName.{TableName}
 use Rattle.nonce_shard.specs.declared.sizes.Sizes.{Sizes}
 use Rattle.scram_proof.specs.Exchange.{Matches, auth_message}
 use Rattle.scram_proof.specs.declared.keys.ScramKeys.{ScramKeys}
+use Rattle.scram_text.specs.Bytes.{base64_bytes}
 use Rattle.scram_text.specs.ClientFinals.{SpellsClientFinal}
 use Rattle.scram_text.specs.ClientFirsts.{FirstParts, IsShort, SpellsClientFirst}
+use Rattle.scram_text.specs.Items.{scram_scheme}
 use Rattle.scram_text.specs.Reauths.{IsReauth}
 use Rattle.scram_text.specs.ServerFirsts.{server_first_text}
 use Rattle.spaces_map.specs.declared.space.Space.{Space}
@@ -27,7 +29,7 @@ use Rattle.auth_decide.specs.Asks.{asked, keep_of, recall_of, reuse_of, take_of}
 use Rattle.auth_decide.specs.Challenges.{offers_scram}
 use Rattle.auth_decide.specs.Credentials.{Reads, credentials_lines}
 use Rattle.auth_decide.specs.Exchanges.{same_flag}
-use Rattle.auth_decide.specs.Messages.{bytes_of, final_parts, scram_scheme}
+use Rattle.auth_decide.specs.Messages.{final_parts}
 use Rattle.auth_decide.specs.Stages.{Question, protection_space}
 use Rattle.auth_decide.specs.declared.scram_message.FinalMessage.{FinalMessage}
 use Rattle.auth_decide.specs.declared.verdict.Ask.TheVariants as ask
@@ -48,7 +50,7 @@ pub record BringsFinal (q : Question) (space : Space) (sid : TableName) (message
   pub named : value_of (codes "sid") (params_of item.rest) ≡ Some (name_text sid)
   pub form : IsName sid
   pub text : List ℕ
-  pub encoded : option_and_then bytes_of (value_of (codes "data") (params_of item.rest)) ≡ Some text
+  pub encoded : option_and_then base64_bytes (value_of (codes "data") (params_of item.rest)) ≡ Some text
   pub spells : SpellsClientFinal text (final_parts message)
   pub in_space : protection_space q.role q.request q.site ≡ Some space
   pub offered : offers_scram space.offers ≡ true
@@ -58,7 +60,7 @@ pub record BringsFinal (q : Question) (space : Space) (sid : TableName) (message
 -- exchange's client-first, the server-first with the client's nonce and then the name, and the message (RFC 5802 section 3).
 pub record Proves (q : Question) (space : Space) (sid : TableName) (message : FinalMessage) (e : Exchange) (user : List ℕ) : Type 0 where
   pub parts : FirstParts
-  pub begun : SpellsClientFirst (110 ∷ 44 ∷ 44 ∷ e.bare.items) parts
+  pub begun : SpellsClientFirst (codes "n,," ++ e.bare.items) parts
   pub short : IsShort parts
   pub its_name : parts.name ≡ user
   pub keys : ScramKeys

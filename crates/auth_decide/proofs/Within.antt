@@ -14,7 +14,8 @@ use Rattle.spaces_map.specs.declared.space.Mode.TheVariants as mode
 use Rattle.spaces_map.specs.declared.space.Space.{Space}
 use Rattle.auth_decide.specs.Candidates.{candidate_of}
 use Rattle.auth_decide.specs.Decisions.{AsksWithin, IsWithin}
-use Rattle.auth_decide.specs.Messages.{SaysMessage, DataSays, TextSays, MissesSid, IsFinal, bytes_of}
+use Rattle.scram_text.specs.Bytes.{base64_bytes}
+use Rattle.auth_decide.specs.Messages.{SaysMessage, DataSays, TextSays, MissesSid, IsFinal}
 use Rattle.auth_grammar.specs.Names.{value_of}
 use Rattle.auth_grammar.specs.declared.items.Param.{Param}
 use Rattle.auth_decide.specs.Paths.{correspond}
@@ -131,7 +132,7 @@ data_counts sid realm (Some text) m says = text_counts sid realm text m says
 pub message_counts : (o : Option (List Param)) (m : ScramMessage) → SaysMessage o m → MessageCounts m
 message_counts None m says = subst MessageCounts (sym says) tt
 message_counts (Some params) m says =
-    data_counts (value_of (codes "sid") params) (value_of (codes "realm") params) (option_and_then bytes_of (value_of (codes "data") params)) m says
+    data_counts (value_of (codes "sid") params) (value_of (codes "realm") params) (option_and_then base64_bytes (value_of (codes "data") params)) m says
 
 sr_within : (shards : ℕ) (o : Option TableName) → IsWithin shards (name_within shards o)
 sr_within shards None = tt

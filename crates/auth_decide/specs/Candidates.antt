@@ -1,5 +1,6 @@
 -- The credentials that a protection space takes (RFC 7616 sections 3.3 and 3.4).
-use Rattle.std.specs.Prelude.{ℕ, Bool, true, false, not, ◌&&◌, bytes_eq, if◌then◌else◌, List, Option, Some, None}
+use Rattle.std.specs.Prelude.{ℕ, Bool, true, false, ◌&&◌, bytes_eq, if◌then◌else◌, List, Option, Some, None}
+use Rattle.std.specs.Bool.{beq}
 use Rattle.std.specs.List.{list_any}
 use Rattle.std.specs.Option.{option_and_then, option_map}
 use Rattle.auth_hash.specs.Algorithm.{same_algorithm}
@@ -17,14 +18,9 @@ use Rattle.spaces_map.specs.declared.space.OfferKind.{OfferKind}
 use Rattle.spaces_map.specs.declared.space.OfferKind.TheVariants.{Digest, ScramSha256}
 use Rattle.auth_decide.specs.declared.candidate.Candidate.{Candidate}
 
--- whether two booleans are one
-abbrev pub same_bool : Bool → Bool → Bool
-same_bool true b = b
-same_bool false b = not b
-
 -- whether an offer is of a kind
 abbrev pub offers_kind : OfferKind → Kind → Bool
-offers_kind (Digest alg session) kind = same_algorithm alg kind.alg && same_bool session kind.session
+offers_kind (Digest alg session) kind = same_algorithm alg kind.alg && beq session kind.session
 offers_kind ScramSha256 kind = false
 
 -- whether an offer has a quality of protection: `auth` always, `auth-int` where it says so

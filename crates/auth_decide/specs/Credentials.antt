@@ -3,17 +3,18 @@ use Rattle.std.specs.Prelude.{◌≡◌, ℕ, false, if◌then◌else◌, List, 
 use Rattle.auth_grammar.specs.Names.{has_repeat, params_of, same_name}
 use Rattle.auth_grammar.specs.Answers.{Refuses}
 use Rattle.auth_grammar.specs.Items.{SpellsCredentials}
+use Rattle.auth_grammar.specs.RoleFields.{credentials_field}
 use Rattle.auth_grammar.specs.declared.error.GrammarError.{GrammarError}
 use Rattle.auth_grammar.specs.declared.error.GrammarError.TheVariants.{NotGrammar, Twice, OutOfMemory}
 use Rattle.auth_grammar.specs.declared.grammar.Grammar.TheVariants as Of
 use Rattle.auth_grammar.specs.declared.items.Item.{Item}
 use Rattle.auth_grammar.specs.declared.items.Role.{Role}
-use Rattle.auth_grammar.specs.declared.items.Role.TheVariants.{Origin, Proxy}
 use Rattle.http_wire.specs.Fields.{values_of}
 use Rattle.http_wire.specs.declared.request.Request.{Request}
 use Rattle.digest_fields.specs.Credentials.{Credentials, credentials_of}
 use Rattle.digest_fields.specs.declared.field.FieldError.{FieldError}
-use Rattle.auth_decide.specs.Messages.{Names, SaysMessage, scram_params, scram_scheme}
+use Rattle.scram_text.specs.Items.{scram_scheme}
+use Rattle.auth_decide.specs.Messages.{Names, SaysMessage, scram_params}
 use Rattle.auth_decide.specs.declared.credentials.CredentialsField.{CredentialsField}
 use Rattle.auth_decide.specs.declared.credentials.CredentialsField.TheVariants as field
 use Rattle.auth_decide.specs.declared.credentials.Presented.{Presented}
@@ -23,12 +24,7 @@ use Rattle.auth_decide.specs.declared.verdict.Why.TheVariants as why
 
 -- ---- the lines
 
--- the field with the credentials for a role, in lower case
-abbrev pub credentials_field : Role → List ℕ
-credentials_field Origin = codes "authorization"
-credentials_field Proxy = codes "proxy-authorization"
-
--- its lines
+-- the lines of the field with the credentials for a role
 abbrev pub credentials_lines : Role → Request → List (List ℕ)
 credentials_lines role request = values_of request.fields (credentials_field role)
 

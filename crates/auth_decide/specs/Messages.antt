@@ -2,17 +2,16 @@
 use Rattle.std.specs.Prelude.{◌≡◌, ℕ, Bool, true, false, nat_eq, if◌then◌else◌, List, Option, Some, None, codes}
 use Rattle.std.specs.List.{starts_with}
 use Rattle.std.specs.Option.{option_and_then}
-use Rattle.std.specs.Result.{result_ok}
 use Rattle.auth_grammar.specs.Names.{params_of, same_name, value_of}
 use Rattle.auth_grammar.specs.declared.items.Param.{Param}
-use Rattle.base64.specs.Engines.{standard}
-use Rattle.base64.specs.GeneralPurpose.{decode_of}
 use Rattle.nonce_shard.specs.Names.{name_text, IsName}
 use Rattle.nonce_shard.specs.declared.calls.ExchangeFlag.{ExchangeFlag}
 use Rattle.nonce_shard.specs.declared.calls.ExchangeFlag.TheVariants as exchange
 use Rattle.nonce_shard.specs.declared.names.TableName.{TableName}
+use Rattle.scram_text.specs.Bytes.{base64_bytes}
 use Rattle.scram_text.specs.ClientFinals.{ClientFinalParts, SpellsClientFinal}
 use Rattle.scram_text.specs.ClientFirsts.{FirstParts, IsShort, SpellsClientFirst}
+use Rattle.scram_text.specs.Items.{scram_scheme}
 use Rattle.scram_text.specs.Reauths.{IsReauth}
 use Rattle.scram_text.specs.declared.flag.Flag.{Flag}
 use Rattle.scram_text.specs.declared.flag.Flag.TheVariants.{N, Y}
@@ -101,19 +100,12 @@ abbrev pub DataSays : Option (List ℕ) → Option (List ℕ) → Option (List �
 DataSays sid realm None message = message ≡ Malformed
 DataSays sid realm (Some text) message = TextSays sid realm text message
 
--- the bytes that are written so, if it is strict base64
-abbrev pub bytes_of : List ℕ → Option (List ℕ)
-bytes_of text = result_ok (decode_of standard text)
-
 -- what the parameters say
 abbrev pub ParamsSay : List Param → ScramMessage → Type 0
 ParamsSay params message = DataSays (value_of (codes "sid") params) (value_of (codes "realm") params)
-    (option_and_then bytes_of (value_of (codes "data") params)) message
+    (option_and_then base64_bytes (value_of (codes "data") params)) message
 
 -- ---- what a field says
-
-abbrev pub scram_scheme : List ℕ
-scram_scheme = codes "SCRAM-SHA-256"
 
 -- the parameters of credentials of SCRAM-SHA-256
 abbrev pub scram_params : CredentialsField → Option (List Param)

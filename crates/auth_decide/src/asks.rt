@@ -10,7 +10,7 @@ ghost use Rattle.auth_decide.specs.Stages.{shard_for};
 use crate::candidate::prime_of;
 use crate::challenges::{Stale, continue_item, items_of, nonce_kind};
 use crate::info::{proof_of, scram_proof_of};
-use crate::scram_exchange::{NewExchange, ScramUser, exchange_copy};
+use crate::scram_exchange::{NewExchange, ScramUser};
 use crate::stages::{Purpose, Stage};
 use crate::verdict::{Ask, Verdict};
 use crate::verified::Verified;
@@ -102,7 +102,7 @@ fn open_of(moment: u64, shards: u16, space: &Space, new: &NewExchange, words: [u
         what: What::Open {
             space: space.number,
             random: words,
-            exchange: exchange_copy(&new.exchange),
+            exchange: new.exchange.copy(),
         },
     };
     table(shard_for(&words, shards), call)

@@ -2,7 +2,7 @@
 ghost use Rattle.std.specs.Prelude.{◌≡◌, ◌≤◌, ◌&&◌, IfOk, bytes_eq, length, option_copied};
 ghost use Rattle.std.specs.List.{list_any};
 ghost use Rattle.std.specs.Option.{option_map};
-ghost use Rattle.auth_decide.specs.Candidates.{same_bool, offers_kind, offers_qop, is_offered, user_of, with_secret, candidate_of};
+ghost use Rattle.auth_decide.specs.Candidates.{offers_kind, offers_qop, is_offered, user_of, with_secret, candidate_of};
 
 use auth_grammar::{Octets, OutOfMemory};
 use auth_hash::{HexText, Qop};
@@ -55,18 +55,12 @@ pub(crate) fn prime_of(bytes: &[u8]) -> Prime
     prime
 }
 
-fn same_bool(a: bool, b: bool) -> bool
-    ensures { result ≡ same_bool a b }
-{
-    if a { b } else { !b }
-}
-
 /// Whether an offer is of a kind.
 fn offers_kind(offer: OfferKind, kind: Kind) -> bool
     ensures { result ≡ offers_kind offer kind }
 {
     match offer {
-        OfferKind::Digest { alg, session } => alg.is(kind.alg) && same_bool(session, kind.session),
+        OfferKind::Digest { alg, session } => alg.is(kind.alg) && session == kind.session,
         OfferKind::ScramSha256 => false,
     }
 }

@@ -1,15 +1,16 @@
 //! The credentials of a request, as the lines of their field say them.
 ghost use Rattle.std.specs.Prelude.{◌≡◌, ◌∷◌, [], ℕ, IfOk, List};
 ghost use Rattle.http_wire.specs.Values.{AreValues};
-ghost use Rattle.auth_decide.specs.Credentials.{LinesSay, Reads, credentials_field, credentials_lines, nonce_in, other_scheme, presented};
+ghost use Rattle.auth_decide.specs.Credentials.{LinesSay, Reads, credentials_lines, nonce_in, other_scheme, presented};
 
 use crate::scram_message::ScramMessage;
-use crate::scram_reading::{SCRAM_SCHEME, message_in, name_of};
+use crate::scram_reading::{message_in, name_of};
 use crate::verdict::Why;
 use auth_grammar::{GrammarError, Item, OutOfMemory, Role, read_credentials, same_name};
 use digest_fields::{DigestCredentials, FieldError};
 use http_wire::{Request, Values};
 use nonce_shard::TableName;
+use scram_text::SCRAM_SCHEME;
 use std::alloc::Global;
 use std::fmt;
 
@@ -79,16 +80,6 @@ impl fmt::Debug for Presented {
             Presented::Digest(_) => "Digest(...)",
             Presented::Scram => "Scram",
         })
-    }
-}
-
-/// The field with the credentials for a role, in lower case (RFC 9110 sections 11.6.2 and 11.7.2).
-pub fn credentials_field(role: Role) -> &'static [u8]
-    ensures { result.now ≡ credentials_field role }
-{
-    match role {
-        Role::Origin => b"authorization",
-        Role::Proxy => b"proxy-authorization",
     }
 }
 
@@ -185,5 +176,5 @@ pub(crate) fn read_request(
     ensures reads { IfOk result (λ read. Reads (credentials_lines role request.now) read.0) }
     ensures presented { IfOk result (λ read. read.1 ≡ presented read.0.field) }
 {
-    read_values(alloc, request.fields.values(credentials_field(role)))
+    read_values(alloc, request.fields.values(role.credentials_field()))
 }

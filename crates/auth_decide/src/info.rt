@@ -1,15 +1,15 @@
 //! What the server proves to an admitted client.
 ghost use Rattle.std.specs.Prelude.{◌≡◌, ◌++◌, ◌∷◌, [], IfOk};
-ghost use Rattle.scram_text.specs.Bytes.{base64_text};
+ghost use Rattle.auth_grammar.specs.Params.{param};
+ghost use Rattle.scram_text.specs.Items.{data_param};
 ghost use Rattle.scram_text.specs.ServerFinals.{server_final_text, signed};
-ghost use Rattle.auth_decide.specs.Challenges.{param};
 ghost use Rattle.auth_decide.specs.Infos.{info_of, next_param, proof_of, scram_info, scram_proof_of};
 
 use crate::basis::ResponseBasis;
-use crate::challenges::param;
-use crate::scram_exchange::{ScramUser, push_base64};
+use crate::scram_exchange::ScramUser;
 use crate::verified::Verified;
-use auth_grammar::{Octets, OutOfMemory, ParamList};
+use auth_grammar::{Octets, OutOfMemory, Param, ParamList};
+use scram_text::{ServerFinal, data_param};
 use std::alloc::Global;
 use std::fmt;
 
@@ -75,12 +75,10 @@ impl Proof {
 fn scram_info(alloc: Global, sid: &[u8; 36], signature: &[u8; 32]) -> Result<ParamList, OutOfMemory>
     ensures { IfOk result (λ params. params ≡ scram_info sid.now signature.now) }
 {
-    let mut message = Octets::of(alloc, b"v=")?;
-    push_base64(alloc, &mut message, signature)?;
-    let mut text = Octets::new(alloc);
-    push_base64(alloc, &mut text, message.bytes())?;
-    let params = with_param(alloc, ParamList::new(alloc), b"sid", sid)?;
-    with_param(alloc, params, b"data", text.bytes())
+    let message = ServerFinal::Signature(*signature).write(alloc)?;
+    let mut params = with_param(alloc, ParamList::new(alloc), b"sid", sid)?;
+    params.push(data_param(alloc, message.bytes())?)?;
+    Ok(params)
 }
 
 /// What the server proves to a user of SCRAM.
@@ -113,6 +111,6 @@ fn with_param(
 ) -> Result<ParamList, OutOfMemory>
     ensures { IfOk result (λ longer. longer ≡ params ++ param name.now value.now ∷ []) }
 {
-    params.push(param(alloc, name, value)?)?;
+    params.push(Param::of(alloc, name, value)?)?;
     Ok(params)
 }

@@ -25,7 +25,7 @@ mod verified;
 pub use basis::ResponseBasis;
 pub use candidate::Candidate;
 pub use challenges::Stale;
-pub use credentials::{CredentialsField, Presented, RequestCredentials, credentials_field};
+pub use credentials::{CredentialsField, Presented, RequestCredentials};
 pub use decision::{Decision, asks_few};
 pub use info::Proof;
 pub use paths::{correspond, path_of, without_authority};

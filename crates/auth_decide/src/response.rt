@@ -4,7 +4,7 @@ ghost use Rattle.auth_decide.specs.Responses.{response_secret, is_right};
 ghost use Rattle.auth_decide.specs.VerifiedCredentials.{IsHashOf};
 
 use crate::candidate::Candidate;
-use auth_hash::HexText;
+use auth_hash::{HexText, same_bytes};
 use digest_formulas::{ResponseHash, session_ha1};
 use http_wire::Request;
 
@@ -53,5 +53,5 @@ pub(crate) fn is_right(request: &Request, candidate: &Candidate, hash: &Response
         credentials.uri.bytes(),
         request.body.bytes(),
     );
-    credentials.response.bytes() == value.bytes()
+    same_bytes(credentials.response.bytes(), value.bytes())
 }

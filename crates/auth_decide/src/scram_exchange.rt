@@ -1,20 +1,17 @@
 //! What a client's last message proves in an exchange.
-ghost use Rattle.std.specs.Prelude.{◌≡◌, ◌∷◌, ◌++◌, IfOk, OnOk};
+ghost use Rattle.std.specs.Prelude.{◌≡◌, ◌∷◌, ◌++◌, IfOk};
 ghost use Rattle.nonce_shard.specs.Names.{name_text};
 ghost use Rattle.scram_proof.specs.Exchange.{auth_message};
-ghost use Rattle.scram_text.specs.Bytes.{base64_text};
 ghost use Rattle.scram_text.specs.ServerFirsts.{server_first_text};
 ghost use Rattle.auth_decide.specs.Exchanges.{first_parts, has_nonce, is_proof, new_exchange, recalled_user, same_flag, taken_user, user_by, user_with};
 
 use crate::scram_message::{FinalMessage, FirstMessage};
 use arrayvec::ArrayVec;
 use auth_grammar::{Octets, OutOfMemory, behind};
-use base64::engine::general_purpose::STANDARD;
 use cred_store::Store;
-use itoa::Buffer;
 use nonce_shard::{Exchange, ExchangeFlag, TableName};
 use scram_proof::{SALT_LIMIT, ScramKeys, proof_matches, server_signature};
-use scram_text::{ClientFirst, Flag, ScramError};
+use scram_text::{ClientFirst, Flag, ScramError, ServerFirst};
 use std::alloc::Global;
 use std::fmt;
 
@@ -88,21 +85,10 @@ pub(crate) fn new_exchange(
     let _ = salt.try_extend_from_slice(keys.salt.as_slice());
     Ok(NewExchange {
         nonce: message.nonce.copy()?,
-        exchange: exchange_copy(&message.exchange),
+        exchange: message.exchange.copy(),
         salt,
         i: keys.i,
     })
-}
-
-pub(crate) fn exchange_copy(exchange: &Exchange) -> Exchange
-    ensures { result ≡ exchange.now }
-{
-    let mut bare = ArrayVec::new();
-    let _ = bare.try_extend_from_slice(exchange.bare.as_slice());
-    Exchange {
-        flag: exchange.flag,
-        bare,
-    }
 }
 
 /// What a client's first message says that begins with this behind its flag, if it is one.
@@ -141,22 +127,9 @@ pub(crate) fn server_first(
 ) -> Result<Octets, OutOfMemory>
     ensures { IfOk result (λ text. text ≡ server_first_text (nonce.now ++ name_text sid.now) salt.now i) }
 {
-    let mut text = Octets::of(alloc, b"r=")?;
-    text.extend(nonce)?;
-    text.extend(&sid.text())?;
-    text.extend(b",s=")?;
-    push_base64(alloc, &mut text, salt)?;
-    text.extend(b",i=")?;
-    text.extend(Buffer::new().format(i).as_bytes())?;
-    Ok(text)
-}
-
-/// Adds the bytes in base64 at the end of the text.
-pub(crate) fn push_base64(alloc: Global, text: &mut Octets, bytes: &[u8]) -> Result<(), OutOfMemory>
-    ensures { OnOk result (text.new ≡ text.old ++ base64_text bytes.now) }
-{
-    let written = STANDARD.encode(alloc, bytes)?;
-    text.extend(written.as_bytes())
+    let mut whole = Octets::of(alloc, nonce)?;
+    whole.extend(&sid.text())?;
+    ServerFirst::text_of(alloc, whole.bytes(), salt, i)
 }
 
 fn same_flag(flag: Flag, other: ExchangeFlag) -> bool

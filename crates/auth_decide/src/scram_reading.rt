@@ -3,22 +3,20 @@ ghost use Rattle.std.specs.Prelude.{◌≡◌, ◌≤◌, IfOk, codes, length, n
 ghost use Rattle.std.specs.List.{starts_with};
 ghost use Rattle.std.specs.Option.{option_and_then};
 ghost use Rattle.auth_grammar.specs.Names.{value_of};
+ghost use Rattle.scram_text.specs.Bytes.{base64_bytes};
 ghost use Rattle.scram_text.specs.ClientFirstAnswers.{parts_of};
 ghost use Rattle.scram_text.specs.ClientFinalAnswers.{client_final_parts};
-ghost use Rattle.auth_decide.specs.Messages.{FinalSays, FirstSays, Names, ParamsSay, SaysAgain, SaysMessage, TextSays, bytes_of, exchange_flag, final_parts, first_message, scram_params};
+ghost use Rattle.auth_decide.specs.Messages.{FinalSays, FirstSays, Names, ParamsSay, SaysAgain, SaysMessage, TextSays, exchange_flag, final_parts, first_message, scram_params};
 
 use crate::credentials::CredentialsField;
 use crate::scram_message::{Again, FinalMessage, FirstMessage, ScramMessage};
 use arrayvec::ArrayVec;
 use auth_grammar::{Octets, OutOfMemory, Param, same_name, value_of};
-use base64::DecodeAllocError;
-use base64::engine::general_purpose::STANDARD;
 use nonce_shard::{Exchange, ExchangeFlag, TableName};
-use scram_text::{BARE_LIMIT, ClientFinal, ClientFirst, Flag, ReauthNonce, ScramError};
+use scram_text::{
+    BARE_LIMIT, ClientFinal, ClientFirst, Flag, ReauthNonce, SCRAM_SCHEME, ScramError, read_base64,
+};
 use std::alloc::Global;
-
-/// The scheme of SCRAM-SHA-256 (RFC 7804 section 8).
-pub(crate) const SCRAM_SCHEME: &[u8] = b"SCRAM-SHA-256";
 
 /// What a field says in SCRAM-SHA-256.
 pub(crate) fn message_in(
@@ -49,22 +47,11 @@ fn params_message(alloc: Global, params: &[Param]) -> Result<ScramMessage, OutOf
 
 /// The bytes of `data`, if it is there and strict base64.
 fn data_of(alloc: Global, params: &[Param]) -> Result<Option<Octets>, OutOfMemory>
-    ensures { IfOk result (λ found. found ≡ option_and_then bytes_of (value_of (codes "data") params.now)) }
+    ensures { IfOk result (λ found. found ≡ option_and_then base64_bytes (value_of (codes "data") params.now)) }
 {
     match value_of(params, b"data") {
         None => Ok(None),
-        Some(text) => bytes_of(alloc, text.bytes()),
-    }
-}
-
-/// The bytes that are written so, if it is strict base64.
-fn bytes_of(alloc: Global, text: &[u8]) -> Result<Option<Octets>, OutOfMemory>
-    ensures { IfOk result (λ bytes. bytes ≡ bytes_of text.now) }
-{
-    match STANDARD.decode(alloc, text) {
-        Ok(bytes) => Ok(Some(Octets::from_vec(bytes))),
-        Err(DecodeAllocError::OutOfMemory) => Err(OutOfMemory),
-        Err(_) => Ok(None),
+        Some(text) => read_base64(alloc, text.bytes()),
     }
 }
 
