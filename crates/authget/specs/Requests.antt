@@ -1,5 +1,6 @@
 -- The request for a URL (RFC 9112 section 3), and the reply to it.
 use Rattle.std.specs.Prelude.{ℕ, ◌≤◌, false, length, List, [], ◌∷◌, Option, Some, None, codes}
+use Rattle.auth_grammar.specs.RoleFields.{credentials_name}
 use Rattle.auth_grammar.specs.Writing.{items_text}
 use Rattle.auth_grammar.specs.declared.items.Item.{Item}
 use Rattle.auth_grammar.specs.declared.items.Quoting.TheVariants.{Credentials}
@@ -43,13 +44,8 @@ request_for plan url = record { method = codes "GET"; authority = plan.authority
 abbrev pub HasTarget : Plan → List ℕ → Type 0
 HasTarget plan url = 1 ≤ length (target_of plan.proxy url)
 
--- the field with credentials (RFC 9110 sections 11.6.2 and 11.7.2)
-abbrev pub field_of : Role → List ℕ
-field_of Origin = codes "Authorization"
-field_of Proxy = codes "Proxy-Authorization"
-
 abbrev pub line_with : Role → Item → List Pair
-line_with role item = record { name = field_of role; value = items_text Credentials (item ∷ []) } ∷ []
+line_with role item = record { name = credentials_name role; value = items_text Credentials (item ∷ []) } ∷ []
 
 -- the line with these credentials, if there are any
 abbrev pub lines_with : Role → Sent → List Pair

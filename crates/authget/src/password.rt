@@ -1,16 +1,15 @@
 //! Reading the password.
 ghost use Rattle.std.specs.Prelude.{◌≡◌, Err, OnOk};
-ghost use Rattle.std.specs.Str.Lines.{strip_carriage_return};
 ghost use Rattle.auth_io.specs.Causes.{Rose};
 ghost use Rattle.authget.specs.Passwords.{ReadsByte, ReadsLine};
 
 use crate::stop::Stop;
-use auth_grammar::Octets;
+use auth_grammar::{Octets, PASSWORD_LIMIT, without_return};
 use auth_io::Source;
 use std::alloc::Global;
 
 /// How many bytes are read at most, which are those of the longest password and the end of its line.
-const LINE_LIMIT: usize = 130;
+const LINE_LIMIT: usize = PASSWORD_LIMIT + 2;
 
 /// Reads a byte of the input, if there is one.
 fn read_byte<S: Source>(input: &mut S) -> Result<Option<u8>, Stop>
@@ -23,13 +22,6 @@ fn read_byte<S: Source>(input: &mut S) -> Result<Option<u8>, Stop>
         return Err(Stop::Fault);
     };
     Ok(byte[..count].first().copied())
-}
-
-/// A line without the one CR at its end.
-fn without_return(line: &[u8]) -> &[u8]
-    ensures { result.now ≡ strip_carriage_return line.now }
-{
-    line.strip_suffix(b"\r").unwrap_or(line)
 }
 
 /// Reads the first line of the input, without its end. No more than 130 bytes are read.

@@ -1,7 +1,7 @@
 //! The request for a URL.
 ghost use Rattle.std.specs.Prelude.{◌≡◌, ◌∷◌, ◌≤◌, [], IfOk, length};
 ghost use Rattle.auth_grammar.specs.Writing.{items_text};
-ghost use Rattle.authget.specs.Requests.{field_of, line_with, lines_with, peer_of, request_for, role_of, target_of, text_with};
+ghost use Rattle.authget.specs.Requests.{line_with, lines_with, peer_of, request_for, role_of, target_of, text_with};
 
 use crate::plan::Plan;
 use crate::urls::path_of;
@@ -65,16 +65,6 @@ impl Plan {
     }
 }
 
-/// The name of the field with credentials (RFC 9110 sections 11.6.2 and 11.7.2).
-fn field_of(role: Role) -> &'static [u8]
-    ensures { result.now ≡ field_of role }
-{
-    match role {
-        Role::Origin => b"Authorization",
-        Role::Proxy => b"Proxy-Authorization",
-    }
-}
-
 /// The item as the value of a field.
 fn item_text(alloc: Global, item: &Item) -> Result<Octets, OutOfMemory>
     ensures { IfOk result (λ text. text ≡ items_text Quoting.Credentials (item.now ∷ [])) }
@@ -90,7 +80,7 @@ fn line_with(alloc: Global, role: Role, item: &Item) -> Result<PairList, OutOfMe
 {
     let mut lines = PairList::new(alloc);
     lines.push(Pair {
-        name: Octets::of(alloc, field_of(role))?,
+        name: Octets::of(alloc, role.credentials_name())?,
         value: item_text(alloc, item)?,
     })?;
     Ok(lines)

@@ -4,12 +4,15 @@ ghost use Rattle.authget.specs.Stops.{stop_status};
 
 use auth_grammar::OutOfMemory;
 use auth_io::WriteError;
+use thiserror::Error;
 
 /// Why the program stops before its work is done.
-#[derive(Clone, Copy, Debug, PartialEq, Eq)]
+#[derive(Clone, Copy, Debug, PartialEq, Eq, Error)]
 pub enum Stop {
     /// A call of the outside failed, and its count of faults has risen.
+    #[error("a call of the outside failed")]
     Fault,
+    #[error("out of memory")]
     OutOfMemory,
 }
 

@@ -184,7 +184,7 @@ fn first_wrong(alloc: Global, rows: &str) -> Result<usize, Fail> {
 }
 
 #[test]
-fn runs_go_as_they_should(rt: HostRuntime) -> Result<(), Fail> {
+fn each_run_prints_its_lines_and_ends_with_its_status(rt: HostRuntime) -> Result<(), Fail> {
     assert_eq!(rt; first_wrong(rt.alloc(), ROWS)?, 0);
     Ok(())
 }

@@ -3,6 +3,7 @@ use Rattle.std.proofs.Common.{◌≡◌, ◌⊎◌, inl, inr, ◌∙◌, ℕ, tr
 use Rattle.std.specs.Prelude.{Result, Ok, Err, IsTrue, option_map}
 use Rattle.std.specs.List.{join_with_byte, list_all}
 use Rattle.auth_grammar.specs.Answers.{AnswersChallenges, Refuses}
+use Rattle.auth_grammar.specs.RoleFields.{challenge_name}
 use Rattle.auth_grammar.specs.Valid.{is_valid}
 use Rattle.auth_grammar.specs.Writing.{items_text}
 use Rattle.auth_grammar.specs.declared.error.GrammarError.{GrammarError}
@@ -34,7 +35,7 @@ use Rattle.client_core.specs.Choices.{choice_of, is_scram, offered}
 use Rattle.client_core.specs.Clients.{Concludes}
 use Rattle.client_core.specs.Conclusions.{begun, challenged_state, choosing, concluded, digest_choosing, digest_chosen}
 use Rattle.client_core.specs.Hearings.{Hears}
-use Rattle.client_core.specs.Readings.{IsFaultAt, SaysItems, SpellsItems, challenge_field, challenge_status, lines_of}
+use Rattle.client_core.specs.Readings.{IsFaultAt, SaysItems, SpellsItems, challenge_status, lines_of}
 
 -- ---- a challenge that is heard
 
@@ -86,10 +87,10 @@ told_nothing what told items is h = subst (λ (x : Said). Hears sent.Nothing x t
 
 -- A response whose one line has these challenges leaves the client so.
 pub concludes_challenge : (s t : State) (request : OutRequest) (response : Response) (moment : ℕ) (outcome : Outcome) (quoting : Quoting) (items : List Item) → IsTrue (list_all is_valid items)
-    → response.status ≡ challenge_status s.role → lines_of response (challenge_field s.role) ≡ items_text quoting items ∷ []
+    → response.status ≡ challenge_status s.role → lines_of response (challenge_name s.role) ≡ items_text quoting items ∷ []
     → Concludes s request sent.Nothing response moment outcome t → t ≡ challenged_state s request response moment items
 concludes_challenge s t request response moment outcome quoting items valid status lines c =
-    let text : join_with_byte 44 (lines_of response (challenge_field s.role)) ≡ items_text quoting items = ap (join_with_byte 44) lines ∙ one_text (items_text quoting items) in
+    let text : join_with_byte 44 (lines_of response (challenge_name s.role)) ≡ items_text quoting items = ap (join_with_byte 44) lines ∙ one_text (items_text quoting items) in
     let says = subst (λ (x : List ℕ). SaysItems x c.said) text (c.says.challenge status) in
     let is : c.said ≡ said.Challenge items = says_these quoting items c.said valid says in
     let told : c.heard ≡ heard.Nothing = told_nothing c.said c.heard items is c.hears in

@@ -9,6 +9,7 @@ use Rattle.auth_grammar.specs.Answers.{Refuses}
 use Rattle.auth_grammar.specs.Items.{SpellsParams, unplaced}
 use Rattle.auth_grammar.specs.Names.{has_repeat, params_of, value_of}
 use Rattle.auth_grammar.specs.Repeats.{AreSingle, lists_in, params_in}
+use Rattle.auth_grammar.specs.RoleFields.{info_name}
 use Rattle.auth_grammar.specs.declared.error.GrammarError.{GrammarError}
 use Rattle.auth_grammar.specs.declared.error.GrammarError.TheVariants.{NotGrammar, Twice, OutOfMemory}
 use Rattle.auth_grammar.specs.declared.grammar.Grammar.TheVariants as Of
@@ -54,7 +55,7 @@ use Rattle.client_core.specs.Outcomes.{conclusion, malformed, refusal, wrong}
 use Rattle.client_core.specs.ScramConclusions.{after_again, after_begun, after_first, again_signed, again_told, answering, exchange_of, final_signed, final_told, follows, has_message, is_of_scram, signed_told}
 use Rattle.client_core.specs.Laws.{IsAbsentOr, IsProof, MutualExactly, Proves, ProvesAgain, ProvesDigest, ProvesFinal}
 use Rattle.client_core.proofs.ScramProofs.{proves_signed, signed_proves}
-use Rattle.client_core.specs.Readings.{IsFaultAt, SaysInfo, Says, SpellsInfo, info_field, is_provable, lines_of}
+use Rattle.client_core.specs.Readings.{IsFaultAt, SaysInfo, Says, SpellsInfo, is_provable, lines_of}
 
 -- ---- a text that spells parameters isn't refused
 
@@ -251,7 +252,7 @@ proves s request what response moment (said.Challenge items) told says hears e =
 proves s request what response moment said.Nothing told says hears e = absurd (unproved_not what e)
 proves s request what response moment (said.Info params) told says hears e =
     let proof = informed_proves s request what response params told hears e in
-    let lines = info_lines (lines_of response (info_field s.role)) params (says.proof says.challenge proof.0) in
+    let lines = info_lines (lines_of response (info_name s.role)) params (says.proof says.challenge proof.0) in
     record { no_challenge = says.challenge; params = params; there = lines.0; spelled = lines.1; proof = proof.1 }
 
 -- ---- to the outcome
@@ -303,7 +304,7 @@ means_mutual : (s : State) (request : OutRequest) (what : Sent) (response : Resp
     → Proves s request what response → (concluded s request what response moment read told).outcome ≡ Mutual
 means_mutual s request what response moment read told says hears h =
     let shown = provable s request what response h.params h.proof in
-    let is : read ≡ said.Info h.params = info_only (lines_of response (info_field s.role)) read h.params h.there h.spelled (says.proof h.no_challenge shown) in
+    let is : read ≡ said.Info h.params = info_only (lines_of response (info_name s.role)) read h.params h.there h.spelled (says.proof h.no_challenge shown) in
     ap (λ (x : Said). (concluded s request what response moment x told).outcome) is
     ∙ informed_mutual s request what response h.params told h.proof (subst (λ (x : Said). Hears what x told) is hears)
 

@@ -14,7 +14,8 @@ use Rattle.scram_text.specs.declared.server_final.ServerFinal.TheVariants.{Signa
 use Rattle.client_core.specs.declared.hearing.Heard.{Heard}
 use Rattle.client_core.specs.declared.hearing.Heard.TheVariants.{Nothing, First, Final}
 use Rattle.client_core.specs.declared.state.Exchange.{Exchange}
-use Rattle.client_core.specs.Hearings.{HearsFinal, HearsIn, HearsText, IsFault, decoded}
+use Rattle.scram_text.specs.Bytes.{base64_bytes}
+use Rattle.client_core.specs.Hearings.{HearsFinal, HearsIn, HearsText, IsFault}
 use Rattle.client_core.specs.Laws.{ProvesScram}
 use Rattle.client_core.specs.ScramConclusions.{is_signature, is_signed, signature_for}
 
@@ -35,7 +36,7 @@ from_data : (found : Option (List ℕ)) (params : List Param) (x : Exchange) (no
     → is_signature message (signature_for x nonce) ≡ true → HearsIn HearsFinal found (Final message) → ProvesScram x nonce params
 from_data None params x nonce message is e hears = absurd (let clash : Final message ≡ Nothing = hears in cc)
 from_data (Some text) params x nonce message is e hears =
-    let read = from_text (decoded text) x nonce message e hears in
+    let read = from_text (base64_bytes text) x nonce message e hears in
     record { message = text; text = read.0; there = is; decodes = read.1; signature = read.2 }
 
 pub signed_proves : (params : List Param) (x : Exchange) (nonce : List ℕ) (told : Heard) → is_signed told x nonce ≡ true
@@ -74,10 +75,10 @@ proves_signed params x nonce told h hears =
 
 -- ---- where the message stands
 
-pub hears_final : (message text bytes : List ℕ) (found : Option (List ℕ)) (read : Result Heard NoMemory) → found ≡ Some message → decoded message ≡ Some text → bytes ≡ text
+pub hears_final : (message text bytes : List ℕ) (found : Option (List ℕ)) (read : Result Heard NoMemory) → found ≡ Some message → base64_bytes message ≡ Some text → bytes ≡ text
     → IfOk read (λ heard. HearsFinal bytes heard) → IfOk read (λ heard. HearsIn HearsFinal found heard)
 hears_final message text bytes found (Err error) stands is same h = tt
 hears_final message text bytes found (Ok heard) stands is same h =
     let here : HearsFinal text heard = subst (λ (t : List ℕ). HearsFinal t heard) same h in
-    let inside : HearsText HearsFinal (decoded message) heard = subst (λ (o : Option (List ℕ)). HearsText HearsFinal o heard) (sym is) here in
+    let inside : HearsText HearsFinal (base64_bytes message) heard = subst (λ (o : Option (List ℕ)). HearsText HearsFinal o heard) (sym is) here in
     subst (λ (o : Option (List ℕ)). HearsIn HearsFinal o heard) (sym stands) inside

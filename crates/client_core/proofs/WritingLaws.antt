@@ -4,6 +4,7 @@ use Rattle.std.specs.List.{list_all}
 use Rattle.std.proofs.lemmas.List.Folds.{list_all-append}
 use Rattle.auth_grammar.specs.Kinds.{is_mark_byte, is_plain_byte, kind_of}
 use Rattle.auth_grammar.specs.Names.{has_repeat}
+use Rattle.auth_grammar.specs.Params.{param}
 use Rattle.auth_grammar.specs.Valid.{are_valid_params, is_quotable_text, is_token_text, is_valid, is_valid_param}
 use Rattle.auth_grammar.specs.declared.items.Item.{Item}
 use Rattle.auth_grammar.specs.declared.items.Param.{Param}
@@ -24,7 +25,8 @@ use Rattle.client_core.specs.Givings.{again_given, by_choice, given, given_at, o
 use Rattle.client_core.specs.declared.request.OutRequest.{OutRequest}
 use Rattle.client_core.specs.declared.request.Sent.{Sent}
 use Rattle.client_core.specs.declared.state.Progress.{Progress}
-use Rattle.client_core.specs.Scrams.{data_param, param, realm_params, scram_item}
+use Rattle.scram_text.specs.Items.{data_param, scram_item}
+use Rattle.client_core.specs.Scrams.{realm_params}
 use Rattle.auth_hash.specs.HexText.{IsHexText}
 use Rattle.digest_fields.specs.Challenge.{Challenge}
 use Rattle.digest_fields.specs.Name.{IsName}

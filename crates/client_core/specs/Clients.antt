@@ -1,7 +1,6 @@
 -- Clients.
-use Rattle.std.specs.Prelude.{◌≡◌, ℕ, List, [], length, None, Bool, ◌&&◌, nat_le}
-use Rattle.std.specs.List.{list_all}
-use Rattle.auth_grammar.specs.Plain.{is_plain_name, is_printable}
+use Rattle.std.specs.Prelude.{◌≡◌, ℕ, List, [], length, None, Bool, ◌&&◌}
+use Rattle.auth_grammar.specs.Plain.{is_password, is_plain_name}
 use Rattle.auth_grammar.specs.declared.items.Role.{Role}
 use Rattle.http_wire.specs.declared.response.Response.{Response}
 use Rattle.client_core.specs.declared.hearing.Heard.{Heard}
@@ -16,10 +15,6 @@ use Rattle.client_core.specs.Changes.{applied}
 use Rattle.client_core.specs.Conclusions.{concluded}
 use Rattle.client_core.specs.Hearings.{Hears}
 use Rattle.client_core.specs.Readings.{Says}
-
--- 1 to 128 printable bytes
-abbrev pub is_password : List ℕ → Bool
-is_password text = (nat_le 1 (length text) && nat_le (length text) 128) && list_all is_printable text
 
 -- a name and a password that a client may have
 abbrev pub fits : List ℕ → List ℕ → Bool

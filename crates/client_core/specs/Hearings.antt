@@ -1,10 +1,8 @@
 -- What the messages of SCRAM-SHA-256 in a response say (RFC 7804 section 5).
 use Rattle.std.specs.Prelude.{◌≡◌, ℕ, List, [], ◌∷◌, codes, ⊤, Option, Some, None, option_map, Ok, Err, if◌then◌else◌}
-use Rattle.std.specs.Result.{result_ok}
-use Rattle.base64.specs.Engines.{standard}
-use Rattle.base64.specs.GeneralPurpose.{decode_of}
 use Rattle.auth_grammar.specs.Names.{params_of, same_name, value_of}
 use Rattle.auth_grammar.specs.declared.items.Item.{Item}
+use Rattle.scram_text.specs.Bytes.{base64_bytes}
 use Rattle.scram_text.specs.ServerFinalAnswers.{RefusesServerFinal, said_of}
 use Rattle.scram_text.specs.ServerFinals.{FinalSaid, SpellsServerFinal}
 use Rattle.scram_text.specs.ServerFirstAnswers.{AnswersServerFirst}
@@ -39,10 +37,6 @@ abbrev pub continued : List Item → Option (List ℕ × List ℕ)
 continued [] = None
 continued (item ∷ items) = or_later (message_in item) (continued items)
 
--- the bytes whose base64 the text is
-abbrev pub decoded : List ℕ → Option (List ℕ)
-decoded text = result_ok (decode_of standard text)
-
 -- ---- what it says
 
 -- a fault of the text, and not want of memory
@@ -74,7 +68,7 @@ HearsText reads (Some text) heard = reads text heard
 -- what the `data` says, where it is there
 abbrev pub HearsIn : (List ℕ → Heard → Type 0) → Option (List ℕ) → Heard → Type 0
 HearsIn reads None heard = heard ≡ Nothing
-HearsIn reads (Some text) heard = HearsText reads (decoded text) heard
+HearsIn reads (Some text) heard = HearsText reads (base64_bytes text) heard
 
 -- what the message says that counts in answer to these credentials
 abbrev pub Hears : Sent → Said → Heard → Type 0

@@ -2,6 +2,7 @@
 use Rattle.std.specs.Prelude.{◌≡◌, ◌≢◌, ◌⊎◌, ◌↔◌, ℕ, List, [], ◌∷◌, codes, Option, Some, None, Result, Ok}
 use Rattle.std.specs.List.{join_with_byte}
 use Rattle.auth_grammar.specs.Names.{params_of, value_of}
+use Rattle.auth_grammar.specs.RoleFields.{info_name}
 use Rattle.auth_grammar.specs.declared.items.Item.{Item}
 use Rattle.auth_grammar.specs.declared.items.Param.{Param}
 use Rattle.auth_hash.specs.declared.algorithm.Qop.{Qop}
@@ -9,6 +10,7 @@ use Rattle.digest_fields.specs.Credentials.{Credentials, credentials_of}
 use Rattle.digest_fields.specs.Field.{given}
 use Rattle.digest_fields.specs.Info.{Info, info_of}
 use Rattle.digest_fields.specs.declared.field.FieldName.TheVariants as field
+use Rattle.scram_text.specs.Bytes.{base64_bytes}
 use Rattle.scram_text.specs.ServerFinals.{SpellsServerFinal, signed}
 use Rattle.http_wire.specs.declared.response.Response.{Response}
 use Rattle.client_core.specs.declared.outcome.Outcome.{Outcome}
@@ -24,10 +26,9 @@ use Rattle.client_core.specs.Clients.{Concludes}
 use Rattle.client_core.specs.Conclusions.{answered_body, right_value}
 use Rattle.client_core.specs.Digests.{DrewAtMost}
 use Rattle.client_core.specs.Givings.{given as given_of}
-use Rattle.client_core.specs.Hearings.{decoded}
 use Rattle.client_core.specs.ScramConclusions.{signature_for}
 use Rattle.client_core.specs.Scrams.{again_nonce, final_item}
-use Rattle.client_core.specs.Readings.{SpellsInfo, challenge_status, info_field, lines_of}
+use Rattle.client_core.specs.Readings.{SpellsInfo, challenge_status, lines_of}
 
 -- ---- when a server has proved itself
 
@@ -53,7 +54,7 @@ pub record ProvesScram (x : Exchange) (nonce : List ℕ) (params : List Param) :
   pub message : List ℕ
   pub text : List ℕ
   pub there : value_of (codes "data") params ≡ Some message
-  pub decodes : decoded message ≡ Some text
+  pub decodes : base64_bytes message ≡ Some text
   pub signature : SpellsServerFinal text (signed (signature_for x nonce))
 
 -- the same of the exchange that waits for it
@@ -81,8 +82,8 @@ IsProof s request (sent.ScramAgain item) response params = ProvesAgain s params
 pub record Proves (s : State) (request : OutRequest) (what : Sent) (response : Response) : Type 0 where
   pub no_challenge : response.status ≢ challenge_status s.role
   pub params : List Param
-  pub there : lines_of response (info_field s.role) ≢ []
-  pub spelled : SpellsInfo (join_with_byte 44 (lines_of response (info_field s.role))) params
+  pub there : lines_of response (info_name s.role) ≢ []
+  pub spelled : SpellsInfo (join_with_byte 44 (lines_of response (info_name s.role))) params
   pub proof : IsProof s request what response params
 
 -- Mutual is told exactly where the server has proved itself.

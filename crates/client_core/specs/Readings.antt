@@ -1,10 +1,11 @@
 -- What the fields of a response say (RFC 9110 sections 11.6 and 11.7, RFC 7615).
-use Rattle.std.specs.Prelude.{◌≡◌, ◌≢◌, ◌<◌, ◌^◌, ℕ, Bool, true, false, IsTrue, List, [], ◌∷◌, length, codes, ⊤}
+use Rattle.std.specs.Prelude.{◌≡◌, ◌≢◌, ◌<◌, ◌^◌, ℕ, Bool, true, false, IsTrue, List, [], ◌∷◌, length, ⊤}
 use Rattle.std.specs.List.{join_with_byte, list_all}
 use Rattle.auth_grammar.specs.Answers.{Refuses}
 use Rattle.auth_grammar.specs.Items.{SpellsChallenges, SpellsParams}
-use Rattle.auth_grammar.specs.Names.{has_repeat}
+use Rattle.auth_grammar.specs.Names.{has_repeat, lower}
 use Rattle.auth_grammar.specs.Repeats.{HaveSingleNames}
+use Rattle.auth_grammar.specs.RoleFields.{challenge_name, info_name}
 use Rattle.auth_grammar.specs.Valid.{are_valid_params, is_valid}
 use Rattle.auth_grammar.specs.declared.error.GrammarError.{GrammarError}
 use Rattle.auth_grammar.specs.declared.error.GrammarError.TheVariants.{NotGrammar, Twice, OutOfMemory}
@@ -21,22 +22,10 @@ use Rattle.client_core.specs.declared.reading.Said.TheVariants.{Challenge, Info,
 use Rattle.client_core.specs.declared.request.Sent.{Sent}
 use Rattle.client_core.specs.declared.request.Sent.TheVariants as sent
 
--- ---- statuses and fields
-
 -- the status of a challenge
 abbrev pub challenge_status : Role → ℕ
 challenge_status Origin = 401
 challenge_status Proxy = 407
-
--- the field with the challenges
-abbrev pub challenge_field : Role → List ℕ
-challenge_field Origin = codes "www-authenticate"
-challenge_field Proxy = codes "proxy-authenticate"
-
--- the field in which a server proves itself
-abbrev pub info_field : Role → List ℕ
-info_field Origin = codes "authentication-info"
-info_field Proxy = codes "proxy-authentication-info"
 
 -- ---- what they say
 
@@ -95,12 +84,12 @@ is_provable (sent.ScramFirst item) = false
 is_provable (sent.ScramFinal item) = true
 is_provable (sent.ScramAgain item) = true
 
--- the lines of a field
+-- the lines of a field, whatever the case of its name
 abbrev pub lines_of : Response → List ℕ → List (List ℕ)
-lines_of response name = values_of response.fields name
+lines_of response name = values_of response.fields (lower name)
 
 -- what a response says in answer to these credentials
 pub record Says (role : Role) (what : Sent) (response : Response) (said : Said) : Type 0 where
-  pub challenge : response.status ≡ challenge_status role → SaysItems (join_with_byte 44 (lines_of response (challenge_field role))) said
-  pub proof : response.status ≢ challenge_status role → is_provable what ≡ true → SaysInfo (lines_of response (info_field role)) said
+  pub challenge : response.status ≡ challenge_status role → SaysItems (join_with_byte 44 (lines_of response (challenge_name role))) said
+  pub proof : response.status ≢ challenge_status role → is_provable what ≡ true → SaysInfo (lines_of response (info_name role)) said
   pub other : response.status ≢ challenge_status role → is_provable what ≡ false → said ≡ Nothing

@@ -10,6 +10,7 @@ use Rattle.scram_proof.specs.declared.keys.TheConstants.{LEAST_ITERATIONS, MOST_
 use Rattle.scram_proof.specs.Exchange.{signature_of}
 use Rattle.scram_proof.specs.Keys.{salted_password, server_key}
 use Rattle.scram_text.specs.Bytes.{is_symbol}
+use Rattle.scram_text.specs.declared.reauth.TheConstants.{SR_LENGTH}
 use Rattle.scram_text.specs.declared.server_final.ServerFinal.{ServerFinal}
 use Rattle.scram_text.specs.declared.server_final.ServerFinal.TheVariants.{Signature, Fault}
 use Rattle.scram_text.specs.declared.server_first.ServerFirst.{ServerFirst}
@@ -31,9 +32,9 @@ use Rattle.client_core.specs.Scrams.{message_of}
 
 -- ---- using an exchange again
 
--- 36 base64 characters
+-- as many base64 characters as an `sr` has
 abbrev pub is_sr : List ℕ → Bool
-is_sr text = (length text == 36) && list_all is_symbol text
+is_sr text = (length text == SR_LENGTH) && list_all is_symbol text
 
 -- one to nine digits, which write no more than nine digits do
 abbrev pub is_ttl : List ℕ → Bool

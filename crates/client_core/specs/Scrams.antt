@@ -2,26 +2,17 @@
 use Rattle.std.specs.Prelude.{ℕ, ◌+◌, ◌-◌, ◌^◌, nat_lt, List, [], ◌∷◌, ◌++◌, codes, decimal, Option, Some, None, Bool, ◌&&◌}
 use Rattle.auth_grammar.specs.declared.items.Item.{Item}
 use Rattle.auth_grammar.specs.declared.items.Param.{Param}
-use Rattle.auth_grammar.specs.declared.items.Rest.TheVariants.{Params}
+use Rattle.auth_grammar.specs.Params.{param}
 pub use Rattle.scram_text.specs.Bytes.{base64_text}
 use Rattle.scram_text.specs.ClientFinals.{client_final_text, without_text}
 use Rattle.scram_text.specs.ClientFirsts.{bare_text}
+use Rattle.scram_text.specs.Items.{data_param, scram_item}
 use Rattle.scram_text.specs.declared.flag.Flag.TheVariants.{N}
 use Rattle.scram_proof.specs.Exchange.{auth_message, proof_of}
 use Rattle.client_core.specs.declared.state.Exchange.{Exchange}
 use Rattle.client_core.specs.declared.state.Reuse.{Reuse}
 use Rattle.client_core.specs.Cnonces.{words_text}
 use Rattle.client_core.specs.Counts.{Drawn, count_of}
-
-abbrev pub param : List ℕ → List ℕ → Param
-param name value = record { name = name; value = value }
-
--- the parameter with a message
-abbrev pub data_param : List ℕ → Param
-data_param message = param (codes "data") (base64_text message)
-
-abbrev pub scram_item : List Param → Item
-scram_item params = record { scheme = codes "SCRAM-SHA-256"; rest = Params params }
 
 -- ---- the first message
 

@@ -6,6 +6,7 @@ ghost use Rattle.client_core.specs.Choices.{choice_of, is_digest, is_scram, offe
 use auth_grammar::{Item, ItemList, OutOfMemory, Rest, has_repeat, same_name, value_of};
 use auth_hash::Algorithm;
 use digest_fields::{DigestChallenge, FieldError, Kind};
+use scram_text::SCRAM_SCHEME;
 use std::alloc::Global;
 
 /// Which item of a list of challenges is answered.
@@ -62,7 +63,7 @@ fn digest_at(items: &[Item], alg: Algorithm) -> Option<usize>
 fn is_scram(item: &Item) -> bool
     ensures { result ≡ is_scram item.now }
 {
-    same_name(item.scheme.bytes(), b"SCRAM-SHA-256")
+    same_name(item.scheme.bytes(), SCRAM_SCHEME)
         && !has_doubles(&item.rest)
         && value_of(item.rest.params(), b"sid").is_none()
 }

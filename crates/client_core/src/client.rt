@@ -1,10 +1,8 @@
 //! The client.
-ghost use Rattle.std.specs.Prelude.{◌≡◌, ◌≤◌, ◌<◌, ◌⊎◌, ◌^◌, ◌&&◌, true, false, length, IfErr, IfOk, OnErr, nat_le};
-ghost use Rattle.std.specs.List.{list_all};
-ghost use Rattle.auth_grammar.specs.Plain.{is_plain_name, is_printable};
+ghost use Rattle.std.specs.Prelude.{◌≡◌, ◌≤◌, ◌<◌, ◌⊎◌, ◌^◌, true, false, length, IfErr, IfOk, OnErr};
 ghost use Rattle.auth_grammar.specs.Valid.{is_quotable_text};
 ghost use Rattle.client_core.specs.Choices.{choice_of};
-ghost use Rattle.client_core.specs.Clients.{Concludes, fits, forgotten, is_password, new_state};
+ghost use Rattle.client_core.specs.Clients.{Concludes, fits, forgotten, new_state};
 ghost use Rattle.client_core.specs.Digests.{DrewAtMost, has_nonce};
 ghost use Rattle.client_core.specs.Givings.{given};
 ghost use Rattle.client_core.specs.Writings.{is_valid_sent};
@@ -16,13 +14,10 @@ use crate::outcome::{ClientError, Outcome};
 use crate::reading::said_by;
 use crate::request::{OutRequest, Sent};
 use crate::state::{Chosen, Progress, State, User};
-use auth_grammar::{ItemList, Octets, OutOfMemory, Role, is_plain_name, is_printable};
+use auth_grammar::{ItemList, Octets, OutOfMemory, Role, is_password, is_plain_name};
 use http_wire::Response;
 use std::alloc::Global;
 use std::marker::Model;
-
-/// The most bytes of a password.
-pub const PASSWORD_LIMIT: usize = 128;
 
 /// A user at one server or proxy. Contracts see what it keeps.
 #[derive(Drop)]
@@ -80,7 +75,8 @@ impl Client {
         Ok(Client { alloc, state })
     }
 
-    /// The item that is answered, as `choose` says.
+    /// The item that a client answers (RFC 7616 section 3.7): of those whose parameters are accepted SCRAM-SHA-256 goes
+    /// before Digest, and Digest by SHA-512-256 before SHA-256 before MD5. Of equals the first counts.
     pub fn choose(items: &ItemList) -> Choice
         requires { length items.now < 2 ^ 32 }
         ensures { result ≡ choice_of items.now }
@@ -144,23 +140,4 @@ impl Client {
         self.state.progress = Progress::Nothing;
         self.state.reuse = None;
     }
-}
-
-/// Whether the text may be a password: 1 to 128 printable bytes.
-fn is_password(text: &[u8]) -> bool
-    ensures { result ≡ is_password text.now }
-{
-    has_password_length(text) && are_printable(text)
-}
-
-fn has_password_length(text: &[u8]) -> bool
-    ensures { result ≡ (nat_le 1 (length text.now) && nat_le (length text.now) 128) }
-{
-    1 <= text.len() && text.len() <= PASSWORD_LIMIT
-}
-
-fn are_printable(text: &[u8]) -> bool
-    ensures { result ≡ list_all is_printable text.now }
-{
-    text.iter().all(|&byte| is_printable(byte))
 }

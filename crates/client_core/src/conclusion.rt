@@ -16,7 +16,7 @@ use crate::request::{OutRequest, Sent};
 use crate::scram_conclusion::{after_again, after_first, again_told, final_told, reuse_of};
 use crate::state::{Change, Chosen, DigestChoice, ScramChoice, State, User};
 use auth_grammar::{Item, ItemList, Octets, OutOfMemory, ParamList, value_of};
-use auth_hash::Qop;
+use auth_hash::{Qop, same_bytes};
 use digest_fields::{DigestChallenge, DigestCredentials, DigestInfo, FieldError, Kind, Nc};
 use digest_formulas::rspauth;
 use http_wire::Response;
@@ -310,7 +310,7 @@ fn is_right(user: &User, body: &[u8], credentials: &DigestCredentials, value: &O
         credentials.uri.bytes(),
         body,
     );
-    value.bytes() == right.bytes()
+    same_bytes(value.bytes(), right.bytes())
 }
 
 /// Whether what the server repeats of the credentials is as it was sent.

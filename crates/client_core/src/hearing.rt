@@ -1,13 +1,11 @@
 //! What the messages of SCRAM-SHA-256 in a response say.
 ghost use Rattle.std.specs.Prelude.{◌≡◌, IfOk, drop, option_copied, option_map};
-ghost use Rattle.client_core.specs.Hearings.{Hears, HearsFinal, HearsFirst, HearsIn, continued, decoded, message_in};
+ghost use Rattle.client_core.specs.Hearings.{Hears, HearsFinal, HearsFirst, HearsIn, continued, message_in};
 
 use crate::reading::Said;
 use crate::request::Sent;
 use auth_grammar::{Item, Octets, OutOfMemory, same_name, value_of};
-use base64::DecodeAllocError;
-use base64::engine::general_purpose::STANDARD;
-use scram_text::{ScramError, ServerFinal, ServerFirst};
+use scram_text::{SCRAM_SCHEME, ScramError, ServerFinal, ServerFirst, read_base64};
 use std::alloc::Global;
 
 /// What a server's message says.
@@ -23,7 +21,7 @@ pub(crate) enum Heard {
 pub(crate) fn message_in(item: &Item) -> Option<(&Octets, &Octets)>
     ensures { option_map (λ found. (found.0.now, found.1.now)) result ≡ message_in item.now }
 {
-    if !same_name(item.scheme.bytes(), b"SCRAM-SHA-256") {
+    if !same_name(item.scheme.bytes(), SCRAM_SCHEME) {
         return None;
     }
     let sid = value_of(item.rest.params(), b"sid")?;
@@ -41,17 +39,6 @@ pub(crate) fn continued(items: &[Item]) -> Option<(&Octets, &Octets)>
         }
     }
     None
-}
-
-/// The bytes whose base64 the text is.
-fn decoded(alloc: Global, text: &[u8]) -> Result<Option<Octets>, OutOfMemory>
-    ensures { IfOk result (λ bytes. bytes ≡ decoded text.now) }
-{
-    match STANDARD.decode(alloc, text) {
-        Ok(bytes) => Ok(Some(Octets::from_vec(bytes))),
-        Err(DecodeAllocError::OutOfMemory) => Err(OutOfMemory),
-        Err(DecodeAllocError::DecodeError(_)) => Ok(None),
-    }
 }
 
 /// What the bytes say as the first message of a server.
@@ -83,7 +70,7 @@ fn hear_first(alloc: Global, found: Option<&Octets>) -> Result<Heard, OutOfMemor
     let Some(message) = found else {
         return Ok(Heard::Nothing);
     };
-    match decoded(alloc, message.bytes())? {
+    match read_base64(alloc, message.bytes())? {
         Some(text) => read_first(alloc, text.bytes()),
         None => Ok(Heard::Nothing),
     }
@@ -96,7 +83,7 @@ fn hear_final(alloc: Global, found: Option<&Octets>) -> Result<Heard, OutOfMemor
     let Some(message) = found else {
         return Ok(Heard::Nothing);
     };
-    match decoded(alloc, message.bytes())? {
+    match read_base64(alloc, message.bytes())? {
         Some(text) => read_final(alloc, text.bytes()),
         None => Ok(Heard::Nothing),
     }

@@ -24,7 +24,7 @@ mod state;
 mod tests;
 
 pub use choice::Choice;
-pub use client::{Client, PASSWORD_LIMIT};
+pub use client::Client;
 pub use laws::{gives_once, gives_sr_once, mutual_exactly};
 pub use outcome::{ClientError, Outcome};
 pub use request::{OutRequest, Sent};

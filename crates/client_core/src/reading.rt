@@ -1,8 +1,9 @@
 //! What the fields of a response say.
 ghost use Rattle.std.specs.Prelude.{◌≡◌, IfOk};
 ghost use Rattle.std.specs.List.{join_with_byte};
+ghost use Rattle.auth_grammar.specs.RoleFields.{challenge_name, info_name};
 ghost use Rattle.client_core.specs.Writings.{IsWritten};
-ghost use Rattle.client_core.specs.Readings.{IsFew, Says, SaysInfo, SaysItems, challenge_field, challenge_status, info_field, is_provable, lines_of};
+ghost use Rattle.client_core.specs.Readings.{IsFew, Says, SaysInfo, SaysItems, challenge_status, is_provable, lines_of};
 
 use crate::request::Sent;
 use auth_grammar::{
@@ -31,26 +32,6 @@ fn challenge_status(role: Role) -> u16
     match role {
         Role::Origin => 401,
         Role::Proxy => 407,
-    }
-}
-
-/// The field with the challenges, in lower case (RFC 9110 sections 11.6.1 and 11.7.1).
-fn challenge_field(role: Role) -> &'static [u8]
-    ensures { result.now ≡ challenge_field role }
-{
-    match role {
-        Role::Origin => b"www-authenticate",
-        Role::Proxy => b"proxy-authenticate",
-    }
-}
-
-/// The field with what the server says of itself, in lower case (RFC 9110 sections 11.6.3 and 11.7.3).
-fn info_field(role: Role) -> &'static [u8]
-    ensures { result.now ≡ info_field role }
-{
-    match role {
-        Role::Origin => b"authentication-info",
-        Role::Proxy => b"proxy-authentication-info",
     }
 }
 
@@ -103,21 +84,21 @@ fn is_provable(sent: &Sent) -> bool
 
 /// What the challenges of a response say.
 fn read_challenge(alloc: Global, role: Role, response: &Response) -> Result<Said, OutOfMemory>
-    ensures says { IfOk result (λ said. SaysItems (join_with_byte 44 (lines_of response.now (challenge_field role))) said) }
+    ensures says { IfOk result (λ said. SaysItems (join_with_byte 44 (lines_of response.now (challenge_name role))) said) }
     ensures few { IfOk result IsFew }
     ensures written { IfOk result IsWritten }
 {
-    let lines = response.fields.lines(alloc, challenge_field(role))?;
+    let lines = response.fields.lines(alloc, role.challenge_name())?;
     read_items(alloc, &lines)
 }
 
 /// What a response says in which a server proves itself.
 fn read_proof(alloc: Global, role: Role, response: &Response) -> Result<Said, OutOfMemory>
-    ensures says { IfOk result (λ said. SaysInfo (lines_of response.now (info_field role)) said) }
+    ensures says { IfOk result (λ said. SaysInfo (lines_of response.now (info_name role)) said) }
     ensures few { IfOk result IsFew }
     ensures written { IfOk result IsWritten }
 {
-    let lines = response.fields.lines(alloc, info_field(role))?;
+    let lines = response.fields.lines(alloc, role.info_name())?;
     read_info(alloc, &lines)
 }
 

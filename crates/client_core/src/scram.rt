@@ -2,18 +2,18 @@
 ghost use Rattle.std.specs.Prelude.{◌≡◌, true, IfOk};
 ghost use Rattle.auth_grammar.specs.Plain.{is_plain_name};
 ghost use Rattle.auth_grammar.specs.Valid.{is_quotable_text, is_valid};
+ghost use Rattle.scram_text.specs.Items.{data_param};
 ghost use Rattle.client_core.specs.Writings.{is_quotable};
 ghost use Rattle.client_core.specs.Cnonces.{words_text};
-ghost use Rattle.client_core.specs.Scrams.{again_nonce, base64_text, can_reuse, data_param, final_item, final_text, first_bare, first_item, param, realm_params, scram_item};
+ghost use Rattle.client_core.specs.Scrams.{again_nonce, base64_text, can_reuse, final_item, final_text, first_bare, first_item, realm_params};
 
 use crate::cnonce::words_text;
 use crate::counts::Counts;
 use crate::state::{Exchange, First, Reuse, ScramChoice};
-use auth_grammar::{Item, Octets, OutOfMemory, Param, ParamList, Rest};
-use base64::engine::general_purpose::STANDARD;
+use auth_grammar::{Item, Octets, OutOfMemory, Param, ParamList};
 use itoa::Buffer;
 use scram_proof::client_proof;
-use scram_text::{ClientFinal, ClientFirst, Flag};
+use scram_text::{ClientFinal, ClientFirst, Flag, data_param, push_base64, scram_item};
 use std::alloc::Global;
 
 /// The client's first message.
@@ -41,7 +41,7 @@ pub(crate) fn first_item(
     let mut text = Octets::of(alloc, b"n,,")?;
     text.extend(first.bare.bytes())?;
     let mut params = realm_params(alloc, &choice.realm)?;
-    params.push(data_param(alloc, text.bytes())?)?;
+    params.push(quotable_data(alloc, text.bytes())?)?;
     scram_item(alloc, params)
 }
 
@@ -51,7 +51,7 @@ fn realm_params(alloc: Global, realm: &Option<Octets>) -> Result<ParamList, OutO
 {
     let mut params = ParamList::new(alloc);
     if let Some(realm) = realm {
-        params.push(param(alloc, b"realm", realm.bytes())?)?;
+        params.push(Param::of(alloc, b"realm", realm.bytes())?)?;
     }
     Ok(params)
 }
@@ -67,8 +67,8 @@ pub(crate) fn final_item(
 {
     let text = final_text(alloc, exchange, nonce)?;
     let mut params = ParamList::new(alloc);
-    params.push(param(alloc, b"sid", exchange.sid.bytes())?)?;
-    params.push(data_param(alloc, text.bytes())?)?;
+    params.push(Param::of(alloc, b"sid", exchange.sid.bytes())?)?;
+    params.push(quotable_data(alloc, text.bytes())?)?;
     scram_item(alloc, params)
 }
 
@@ -84,7 +84,7 @@ fn final_text(alloc: Global, exchange: &Exchange, nonce: &[u8]) -> Result<Octets
         text.bytes(),
     );
     text.extend(b",p=")?;
-    text.extend(base64_of(alloc, &proof)?.bytes())?;
+    push_base64(alloc, &mut text, &proof)?;
     Ok(text)
 }
 
@@ -111,38 +111,10 @@ pub(crate) fn can_reuse(drawn: &Counts, reuse: &Reuse, moment: u64) -> bool
     (moment as u128) < ends && drawn.of(&reuse.sr) < u32::MAX
 }
 
-/// The item of these parameters.
-fn scram_item(alloc: Global, params: ParamList) -> Result<Item, OutOfMemory>
-    ensures { IfOk result (λ item. item ≡ scram_item params) }
-{
-    Ok(Item {
-        scheme: Octets::of(alloc, b"SCRAM-SHA-256")?,
-        rest: Rest::Params(params),
-    })
-}
-
-/// The parameter with a message.
-fn data_param(alloc: Global, message: &[u8]) -> Result<Param, OutOfMemory>
+/// The parameter with a message, which a quoted string can hold.
+fn quotable_data(alloc: Global, message: &[u8]) -> Result<Param, OutOfMemory>
     ensures param { IfOk result (λ made. made ≡ data_param message.now) }
     ensures quotable { IfOk result (λ made. is_quotable_text (base64_text message.now) ≡ true) }
 {
-    param(alloc, b"data", base64_of(alloc, message)?.bytes())
-}
-
-/// A parameter.
-fn param(alloc: Global, name: &[u8], value: &[u8]) -> Result<Param, OutOfMemory>
-    ensures { IfOk result (λ made. made ≡ param name.now value.now) }
-{
-    let name = Octets::of(alloc, name)?;
-    let value = Octets::of(alloc, value)?;
-    Ok(Param { name, value })
-}
-
-/// The base64 of bytes.
-fn base64_of(alloc: Global, bytes: &[u8]) -> Result<Octets, OutOfMemory>
-    ensures text { IfOk result (λ text. text ≡ base64_text bytes.now) }
-    ensures quotable { IfOk result (λ text. is_quotable_text (base64_text bytes.now) ≡ true) }
-{
-    let text = STANDARD.encode(alloc, bytes)?;
-    Octets::of(alloc, text.as_bytes())
+    data_param(alloc, message)
 }

@@ -13,8 +13,9 @@ use crate::hearing::{Heard, continued};
 use crate::outcome::Outcome;
 use crate::state::{Change, Exchange, First, Progress, Reuse, State, User};
 use auth_grammar::{Item, ItemList, Octets, OutOfMemory, Param, same_name, value_of};
+use auth_hash::same_bytes;
 use scram_proof::{LEAST_ITERATIONS, MOST_ITERATIONS, salted, server_key, server_signature};
-use scram_text::{ClientFinal, Flag, ServerFinal, ServerFirst};
+use scram_text::{ClientFinal, Flag, SCRAM_SCHEME, SR_LENGTH, ServerFinal, ServerFirst, is_symbol};
 use std::alloc::Global;
 
 /// The most seconds that nine digits write.
@@ -96,7 +97,7 @@ fn first_scram(items: &[Item]) -> Option<&Item>
 fn is_of_scram(item: &Item) -> bool
     ensures { result ≡ is_of_scram item.now }
 {
-    same_name(item.scheme.bytes(), b"SCRAM-SHA-256")
+    same_name(item.scheme.bytes(), SCRAM_SCHEME)
 }
 
 /// What an item gives to use an exchange again with.
@@ -128,27 +129,17 @@ fn reuse_with(sr: &Octets, ttl: &[u8], moment: u64) -> Result<Option<Reuse>, Out
     }))
 }
 
-/// Whether the text is 36 base64 characters.
+/// Whether the text is as many base64 characters as an `sr` has.
 fn is_sr(text: &[u8]) -> bool
     ensures { result ≡ is_sr text.now }
 {
-    text.len() == 36 && are_symbols(text)
+    text.len() == SR_LENGTH && are_symbols(text)
 }
 
 fn are_symbols(text: &[u8]) -> bool
     ensures { result ≡ list_all is_symbol text.now }
 {
     text.iter().all(|&byte| is_symbol(byte))
-}
-
-/// Whether the byte is a base64 character other than the padding.
-fn is_symbol(byte: u8) -> bool
-    ensures { result ≡ is_symbol byte }
-{
-    (65 <= byte && byte <= 90 || 97 <= byte && byte <= 122)
-        || byte.is_ascii_digit()
-        || byte == b'+'
-        || byte == b'/'
 }
 
 /// Whether the text is one to nine digits.
@@ -262,7 +253,7 @@ fn is_signature(message: &ServerFinal, right: &[u8; 32]) -> bool
     ensures { result ≡ is_signature message.now right.now }
 {
     match message {
-        ServerFinal::Signature(signature) => signature.as_slice() == right.as_slice(),
+        ServerFinal::Signature(signature) => same_bytes(signature, right),
         ServerFinal::Fault(_) => false,
     }
 }

@@ -217,7 +217,7 @@ fn first_wrong(alloc: Global, rows: &str) -> Result<usize, Fail> {
 }
 
 #[test]
-fn exchanges_go_as_they_should(rt: HostRuntime) -> Result<(), Fail> {
+fn each_request_has_its_credentials_and_its_outcome(rt: HostRuntime) -> Result<(), Fail> {
     assert_eq!(rt; first_wrong(rt.alloc(), ROWS)?, 0);
     Ok(())
 }

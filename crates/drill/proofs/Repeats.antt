@@ -27,7 +27,7 @@ use Rattle.spaces_map.specs.declared.space.Space.{Space}
 use Rattle.auth_decide.specs.Asks.{use_of}
 use Rattle.auth_decide.specs.VerifiedCredentials.{verified}
 use Rattle.auth_decide.specs.Credentials.{LinesSay, Reads, SpellsOne}
-use Rattle.auth_decide.specs.Messages.{scram_scheme}
+use Rattle.scram_text.specs.Items.{scram_scheme}
 use Rattle.auth_decide.specs.Stages.{Question}
 use Rattle.auth_decide.specs.declared.candidate.Candidate.{Candidate}
 use Rattle.auth_decide.specs.declared.credentials.CredentialsField.{CredentialsField}

@@ -1,6 +1,7 @@
 -- What a step does.
 use Rattle.std.proofs.Common.{◌≡◌, inl, inr, ◌<◌, ◌+◌, ◌++◌, ℕ, zero, suc, Bool, true, false, length, replicate, slice_get, nat_le, List, [], ◌∷◌, append-nil, Option, Some, None, IfOk, OnOk, OnErr, refl, sym, ap, ◌∙◌, subst, arith}
 use Rattle.std.specs.Prelude.{Result, Ok, Err, if◌then◌else◌}
+use Rattle.auth_grammar.specs.RoleFields.{challenge_name}
 use Rattle.auth_grammar.specs.declared.items.Item.{Item}
 use Rattle.auth_grammar.specs.declared.items.Role.{Role}
 use Rattle.auth_grammar.specs.declared.items.Role.TheVariants.{Origin}
@@ -30,7 +31,7 @@ use Rattle.http_wire.specs.declared.response.Response.{Response}
 use Rattle.client_core.proofs.ChallengeLaws.{challenged_role, concludes_challenge}
 use Rattle.client_core.specs.Clients.{Concludes, forgotten}
 use Rattle.client_core.specs.Conclusions.{challenged_state}
-use Rattle.client_core.specs.Readings.{challenge_field, challenge_status, lines_of as field_lines}
+use Rattle.client_core.specs.Readings.{challenge_status, lines_of as field_lines}
 use Rattle.client_core.specs.declared.outcome.Outcome.{Outcome}
 use Rattle.client_core.specs.declared.request.OutRequest.{OutRequest}
 use Rattle.client_core.specs.declared.request.Sent.TheVariants as sent
@@ -220,7 +221,7 @@ told_is s t moment items request what response outcome role request_is what_is a
     let C : Response → Type 0 = λ r. Concludes s out_request sent.Nothing r moment outcome t in
     let plain : C response = subst (λ (w : Sent). Concludes s out_request w response moment outcome t) what_is (subst (λ (r : OutRequest). Concludes s r what response moment outcome t) request_is c) in
     let valid = (and_parts (list_all is_valid items) (nat_le (length (challenge_line items)) 16000) a.0).0 in
-    concludes_challenge s t out_request (response_with items) moment outcome quoting.Challenge items valid (ap challenge_status (sym role)) (ap (λ (r : Role). field_lines (response_with items) (challenge_field r)) role) (subst C a.1 plain)
+    concludes_challenge s t out_request (response_with items) moment outcome quoting.Challenge items valid (ap challenge_status (sym role)) (ap (λ (r : Role). field_lines (response_with items) (challenge_name r)) role) (subst C a.1 plain)
     ∙ ap (λ (b : Bool). if b then challenged_state s out_request (response_with items) moment items else s) (sym a.0)
 
 pub told_role : (s : State) (moment : ℕ) (items : List Item) → (told s moment items).role ≡ s.role

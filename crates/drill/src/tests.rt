@@ -22,7 +22,7 @@ fn goes_so(alloc: Global, seed: u64, steps: u32, wanted: &str) -> Result<bool, F
 }
 
 #[test]
-fn lines_are_as_they_should(rt: HostRuntime) -> Result<(), Fail> {
+fn a_seed_gives_its_line_each_time(rt: HostRuntime) -> Result<(), Fail> {
     let alloc = rt.alloc();
     let first = "steps 1 made 0 delivered 0 admitted 0 stale 0 refused 0\n";
     let long = "steps 4096 made 1694 delivered 1564 admitted 91 stale 1473 refused 0\n";
