@@ -1,17 +1,12 @@
 -- The password that an input begins with.
-use Rattle.std.specs.Prelude.{◌≡◌, ◌⊎◌, ℕ, ◌≤◌, ⊤, Bool, true, false, ◌&&◌, nat_le, List, [], ◌∷◌, ◌++◌, length, Option, Some, None, Result, Ok, Err}
+use Rattle.std.specs.Prelude.{◌≡◌, ◌⊎◌, ℕ, ◌≤◌, ⊤, true, false, List, [], ◌∷◌, ◌++◌, length, Option, Some, None, Result, Ok, Err}
 use Rattle.std.specs.Io.KnownBytes.{Consumes, IsAtEnd}
-use Rattle.std.specs.List.{list_all}
 use Rattle.std.specs.Str.Lines.{strip_carriage_return}
-use Rattle.auth_grammar.specs.Plain.{is_printable}
+use Rattle.auth_grammar.specs.Plain.{is_password}
 use Rattle.cred_store.specs.Values.{HasNo}
 use Rattle.authd.specs.declared.failure.Failure.{Failure}
 use Rattle.authd.specs.declared.failure.Failure.TheVariants as failure
 use Rattle.authd.specs.declared.failure.Fault.TheVariants as fault
-
--- 1 to 128 printable bytes
-abbrev pub is_password : List ℕ → Bool
-is_password text = (nat_le 1 (length text) && nat_le (length text) 128) && list_all is_printable text
 
 -- The bytes that were read are a line with its LF, before which a CR is dropped; or all that was left, or 130 bytes, without LF.
 abbrev pub IsFirstLine : List ℕ → Option (List ℕ) → List ℕ → Type 0

@@ -9,58 +9,80 @@ use connection_loop::ServeError;
 use cred_store::StoreError;
 use spaces_map::SpacesError;
 use std::alloc::Global;
+use thiserror::Error;
 
 /// Why the program ends before its work is done.
-#[derive(Clone, Copy, Debug, PartialEq, Eq)]
+#[derive(Clone, Copy, Debug, PartialEq, Eq, Error)]
 pub enum Failure {
     /// The words of the command line are none that the program knows.
+    #[error("the words are no command")]
     Usage,
+    #[error(transparent)]
     Refused(Refusal),
+    #[error(transparent)]
     Fault(Fault),
     /// The input ended inside the message that begins behind `at` bytes.
+    #[error("the input ended inside the message that begins behind {at} bytes")]
     Truncated { at: u64 },
     /// The table of nonces takes no more calls.
+    #[error("the table of nonces takes no more calls")]
     Worn,
+    #[error("out of memory")]
     OutOfMemory,
 }
 
 /// Why an input or a file is refused.
-#[derive(Clone, Copy, Debug, PartialEq, Eq)]
+#[derive(Clone, Copy, Debug, PartialEq, Eq, Error)]
 pub enum Refusal {
     /// The input is longer than 16,384 bytes.
+    #[error("too long")]
     TooLong,
     /// The text is not of the grammar: none that is begins with more than its first `at` bytes.
+    #[error("not grammar at {at}")]
     NotGrammar { at: u32 },
     /// A name comes a second time in one item, behind `at` bytes.
+    #[error("twice at {at}")]
     Twice { at: u32 },
     /// The file of the store isn't there.
+    #[error("store absent")]
     StoreAbsent,
     /// The file of the spaces isn't there.
+    #[error("spaces absent")]
     SpacesAbsent,
     /// The file of htdigest isn't there.
+    #[error("htdigest absent")]
     HtdigestAbsent,
     /// A file is longer than 16,777,216 bytes.
+    #[error("file too long")]
     FileTooLong,
     /// The space of `/` isn't there, or needs no user.
+    #[error("not for a proxy")]
     NotForProxy,
     /// This line of the store is its first faulty one.
+    #[error("store line {line}")]
     StoreLine { line: u32 },
     /// This line of the spaces is their first faulty one.
+    #[error("spaces line {line}")]
     SpacesLine { line: u32 },
     /// This line of the text of htdigest is its first faulty one.
+    #[error("htdigest line {line}")]
     HtdigestLine { line: u32 },
 }
 
 /// What failed. Its count of faults has risen.
-#[derive(Clone, Copy, Debug, PartialEq, Eq)]
+#[derive(Clone, Copy, Debug, PartialEq, Eq, Error)]
 pub enum Fault {
     /// A read of the link.
+    #[error("a read of the link failed")]
     Read,
     /// A write of the link.
+    #[error("a write of the link failed")]
     Write,
-    /// A read of a file.
+    /// A read or a replace of a file.
+    #[error("a call of the files failed")]
     File,
     /// A draw of random words.
+    #[error("a draw of random words failed")]
     Draw,
 }
 

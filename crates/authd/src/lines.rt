@@ -1,8 +1,8 @@
 //! The lines of a text.
 ghost use Rattle.std.specs.Prelude.{◌≡◌, IfOk};
-ghost use Rattle.std.specs.Str.Lines.{lines, strip_carriage_return};
+ghost use Rattle.std.specs.Str.Lines.{lines};
 
-use auth_grammar::{Octets, OctetsList, OutOfMemory, cut_at};
+use auth_grammar::{Octets, OctetsList, OutOfMemory, cut_at, without_return};
 use std::alloc::Global;
 
 /// The lines of a text. Each ends with LF or CR LF, but the last one need not.
@@ -19,11 +19,4 @@ pub(crate) fn lines_of(alloc: Global, text: &[u8]) -> Result<OctetsList, OutOfMe
         list.push(Octets::of(alloc, rest)?)?;
     }
     Ok(list)
-}
-
-/// A line without the one CR at its end.
-pub(crate) fn without_return(line: &[u8]) -> &[u8]
-    ensures { result.now ≡ strip_carriage_return line.now }
-{
-    line.strip_suffix(b"\r").unwrap_or(line)
 }

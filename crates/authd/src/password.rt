@@ -1,21 +1,15 @@
 //! Reading a password.
-ghost use Rattle.std.specs.Prelude.{◌≡◌, ◌≤◌, ◌&&◌, nat_le, Err, length};
-ghost use Rattle.std.specs.List.{list_all};
-ghost use Rattle.auth_grammar.specs.Plain.{is_printable};
+ghost use Rattle.std.specs.Prelude.{◌≡◌, ◌≤◌, Err};
 ghost use Rattle.auth_io.specs.Causes.{Rose};
-ghost use Rattle.authd.specs.Passwords.{ReadsByte, ReadsLine, ReadsPassword, is_password};
+ghost use Rattle.authd.specs.Passwords.{ReadsByte, ReadsLine, ReadsPassword};
 
 use crate::failure::{Failure, Fault};
-use crate::lines::without_return;
-use auth_grammar::{Octets, is_printable};
+use auth_grammar::{Octets, PASSWORD_LIMIT, is_password, without_return};
 use auth_io::Link;
 use std::alloc::Global;
 
-/// How many bytes a password may have.
-const PASSWORD_LIMIT: usize = 128;
-
 /// How many bytes are read at most, which are those of the longest password and the end of its line.
-const LINE_LIMIT: usize = 130;
+const LINE_LIMIT: usize = PASSWORD_LIMIT + 2;
 
 /// Reads a byte of the input, if there is one.
 fn read_byte<L: Link>(link: &mut L) -> Result<Option<u8>, Failure>
@@ -65,22 +59,4 @@ pub(crate) fn read_password<L: Link>(alloc: Global, link: &mut L) -> Result<Octe
         return Err(Failure::Usage);
     }
     Ok(line)
-}
-
-fn is_password(text: &[u8]) -> bool
-    ensures { result ≡ is_password text.now }
-{
-    has_length(text) && is_all_printable(text)
-}
-
-fn has_length(text: &[u8]) -> bool
-    ensures { result ≡ (nat_le 1 (length text.now) && nat_le (length text.now) 128) }
-{
-    1 <= text.len() && text.len() <= PASSWORD_LIMIT
-}
-
-fn is_all_printable(text: &[u8]) -> bool
-    ensures { result ≡ list_all is_printable text.now }
-{
-    text.iter().all(|byte| is_printable(*byte))
 }

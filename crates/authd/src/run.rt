@@ -35,12 +35,13 @@ pub fn run<L: Link, F: Files, C: Clock, W: Words, D: Sink>(
     random: &mut W,
     diag: &mut D,
 ) -> u8
-    // What the words ask for is done, with some ending, which the status and the line on diag tell.
+    // What the words ask for is done, with some ending, which the status and the line on diag tell. A fault that ends it has
+    // its own cause.
     ensures does { let v = views (link_of L.left L.given L.written L.reads) L.read_faults L.write_faults
         (files_state F.contents F.asked F.faults) C.shown W.drawn W.faults in
-        (ending : Ending)
-        × Does v (asked_for (map string_bytes words.now.items)) (objects link.old files.old clock.old random.old)
-        (objects link.new files.new clock.new random.new) ending
+        let before = objects link.old files.old clock.old random.old in
+        let now = objects link.new files.new clock.new random.new in
+        (ending : Ending) × Does v (asked_for (map string_bytes words.now.items)) before now ending × IfErr ending (FailureSays v before now)
         × Reports ending (D.written diag.old) (D.written diag.new) (D.faults diag.old) (D.faults diag.new) result }
 
     // Where the words, the input or a file is refused nothing is written, and no file changes.
