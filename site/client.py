@@ -26,15 +26,20 @@ def credentials(nonce, count, method="GET", target=TARGET):
     )
 
 
-def read_reply(stream):
-    """The head and the body of a reply."""
+def read_head(stream):
+    """The head of a reply, with the empty line behind it."""
     head = b""
     while not head.endswith(b"\r\n\r\n"):
         byte = stream.read(1)
         if not byte:
             raise OSError("the program ended inside a reply")
         head += byte
-    head = head.decode()
+    return head.decode()
+
+
+def read_reply(stream):
+    """The head and the body of a reply."""
+    head = read_head(stream)
     return head, stream.read(int(re.search(r"Content-Length: (\d+)", head).group(1))).decode()
 
 

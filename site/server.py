@@ -33,6 +33,12 @@ def listens(port):
     return False
 
 
+def expect(what, found, wanted):
+    """Ends the check where something isn't as it should be."""
+    if found != wanted:
+        sys.exit(f"failed: {what}: {found!r}, and not {wanted!r}")
+
+
 class Program:
     """`authd` with a command that listens over these files, for so many workers and connections a worker. It has to end by
     itself. Its words may stand behind others, as those of valgrind."""

@@ -81,17 +81,12 @@ def site_of(digest):
 
 def read_reply(stream):
     """The status of the next reply, which is read to its end, and its head."""
-    head = b""
-    while not head.endswith(b"\r\n\r\n"):
-        byte = stream.read(1)
-        if not byte:
-            raise OSError("the program ended inside a reply")
-        head += byte
-    found = re.search(rb"Content-Length: (\d+)", head)
+    head = client.read_head(stream)
+    found = re.search(r"Content-Length: (\d+)", head)
     left = int(found.group(1)) if found else 0
     while left:
         left -= len(stream.read(min(left, 65536)))
-    return head[9:12], head.decode()
+    return head[9:12], head
 
 
 def serve(digest, request, count, write, stream):
@@ -101,7 +96,7 @@ def serve(digest, request, count, write, stream):
     for _ in range(count):
         write(digest.request(*request))
         status, _ = read_reply(stream)
-        if status not in (b"200", b"204"):
+        if status not in ("200", "204"):
             raise OSError("a request isn't admitted")
 
 
