@@ -54,7 +54,7 @@ impl Responder for Echo {
     ghost lacked_later = { λ a b c xs p lack ask q. q };
 }
 
-/// Serves this input, in pieces of up to seven bytes, and checks what was written.
+/// Serves this input, in pieces of 7, 1 and 7 bytes and then the rest, and checks what was written.
 fn serve(
     rt: &impl Abort,
     alloc: Global,

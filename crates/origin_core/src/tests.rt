@@ -47,15 +47,15 @@ fn joined(alloc: Global, parts: &[&[u8]]) -> Result<Octets, Fail> {
     Ok(text)
 }
 
-// a connection that gives these bytes in pieces of seven, and takes what is written in pieces of three
+/// A connection that gives these bytes in pieces of seven, and takes what is written in pieces of three.
 fn link_of(alloc: Global, input: Octets) -> Result<MemLink, Fail> {
     let none = vec![in alloc]?;
     let none_too = vec![in alloc]?;
     Ok(MemLink::new(
         alloc,
         input,
-        vec![in alloc; 7]?,
-        vec![in alloc; 3]?,
+        vec![in alloc; 7; 999]?,
+        vec![in alloc; 3; 999]?,
         none,
         none_too,
         999,

@@ -326,7 +326,7 @@ fn a_dial_or_a_link_that_fails_is_a_bad_gateway(rt: HostRuntime) -> Result<(), F
     Ok(())
 }
 
-/// Checks that a request for this target is refused, and nobody is dialled, where its bytes come in pieces of this size.
+/// Checks that a request for this target is refused, and nobody is dialled, where its bytes are cut behind so many of them.
 fn check_refused(rt: &impl Abort, alloc: Global, target: &[u8], cut: u32) -> Result<(), Fail> {
     let refusal =
         b"HTTP/1.1 400 Bad Request\r\nDate: Thu, 01 Jan 1970 00:00:00 GMT\r\nContent-Length: 12\r\n\r\nBad Request\n";
@@ -351,7 +351,7 @@ fn a_target_without_an_authority_is_refused_and_not_decided(rt: HostRuntime) -> 
     Ok(())
 }
 
-/// Checks the reply where the client's bytes and the upstream's come in pieces of these sizes.
+/// Checks the reply where the client's bytes and the upstream's are cut behind so many of each.
 fn check_cut(
     rt: &impl Abort,
     alloc: Global,

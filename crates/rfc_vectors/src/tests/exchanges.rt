@@ -228,7 +228,7 @@ fn talk(alloc: Global, sends: &str, piece: u32) -> Result<String, Fail> {
     for line in sends.lines() {
         moments.push(push_request(&mut input, line)?)?;
     }
-    let pieces = vec![in alloc; piece]?;
+    let pieces = vec![in alloc; piece; 4096]?;
     let mut link = MemLink::new(
         alloc,
         input,
@@ -236,7 +236,7 @@ fn talk(alloc: Global, sends: &str, piece: u32) -> Result<String, Fail> {
         vec![in alloc; 3]?,
         vec![in alloc]?,
         vec![in alloc]?,
-        999,
+        9999,
     )?;
     let mut table = JournalTable::open(alloc, 64, &Sizes::single())?;
     let mut words = MemWords::new(vec![in alloc; [0; 16]]?, vec![in alloc]?);
